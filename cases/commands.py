@@ -93,6 +93,9 @@ ODD_NAMES = ["with space.fits", "it's.fits", "a|b.fits", "a&b.fits", "a\nb.fits"
 ODD_NAME = "na\udcefve.fits"
 ODD_WORD = "fitsed: an argument is not UTF-8\n"
 
+# A folder with files, in it and below it, and what is none of a night's files.
+NIGHT = {"night/b.fits.fz": EMPTY, "night/a.fits": EMPTY, "night/notes.txt": b"", "night/a/z.fts": STAMP, "night/a/y.fit": EMPTY, "b.txt": EMPTY}
+
 # A line that makes such an error.
 UNDATED = "set 1 DATE '2024-02-30'"
 
@@ -125,6 +128,14 @@ ROWS = [
     (["ask", "a.fits", "b.fits"], {"a.fits": EMPTY, "b.fits": IMAGES}, "get 1 BITPIX\n", 0, "a.fits:integer 8\nb.fits:integer 16\n", ""),
     (["list", "a.fits", "b.fits"], {"a.fits": EMPTY, "b.fits": EMPTY}, "", 0, "a.fits:hdu 1 PRIMARY bitpix 8 axes - cards 3 at 0 2880 2880\nb.fits:hdu 1 PRIMARY bitpix 8 axes - cards 3 at 0 2880 2880\n", ""),
     (["list", "--with-filename", "a.fits"], {"a.fits": EMPTY}, "", 0, "a.fits:hdu 1 PRIMARY bitpix 8 axes - cards 3 at 0 2880 2880\n", ""),
+    # a folder stands for the files below it, in the order of their paths; a path that is no folder for itself, whatever its name
+    (["sum", "-r", "night", "b.txt"], NIGHT, "", 0, "night/a.fits:1 0 0 0\nnight/a/y.fit:1 0 0 0\nnight/a/z.fts:1 0 1 1\nnight/b.fits.fz:1 0 0 0\nb.txt:1 0 0 0\n", ""),
+    (["sum", "--recursive", "night/a/"], NIGHT, "", 0, "night/a/y.fit:1 0 0 0\nnight/a/z.fts:1 0 1 1\n", ""),
+    (["ask", "-r", "night/a"], NIGHT, "get 1 BITPIX\n", 0, "night/a/y.fit:integer 8\nnight/a/z.fts:integer 8\n", ""),
+    (["sum", "-r", "b.txt"], NIGHT, "", 0, "b.txt:1 0 0 0\n", ""),
+    (["sum", "-r", "none", "b.txt"], NIGHT, "", 3, "b.txt:1 0 0 0\n", "fitsed: none: read failed\n"),
+    (["verify", "-lr", "night"], {"night/a.fits": EMPTY, "night/b.fits": b"no"}, "", 2, "night/b.fits\n", "fitsed: night/b.fits: open refused O1 NotFits\n"),
+    (["sum", "night"], NIGHT, "", 3, "", "fitsed: read failed\n"),
     (["sum", "a.fits", "none.fits", "b.fits"], {"a.fits": EMPTY, "b.fits": STAMP}, "", 3, "a.fits:1 0 0 0\nb.fits:1 0 1 1\n", "fitsed: none.fits: read failed\n"),
     (["sum", "a.fits", "b.fits"], {"a.fits": b"no", "b.fits": STAMP}, "", 2, "b.fits:1 0 1 1\n", "fitsed: a.fits: open refused O1 NotFits\n"),
     (["verify", "-q", "a.fits", "b.fits"], {"a.fits": EMPTY, "b.fits": EMPTY}, "", 0, "a.fits:errors 0 warnings 0\nb.fits:errors 0 warnings 0\n", ""),
@@ -355,10 +366,10 @@ ROWS += [
     (["edit", "-v", "-e", "stat 1", "a.fits", "/dev/null"], {"a.fits": EMPTY}, "", 1, "line 1: refused 9 NotImage\n", "fitsed: line 1: refused 9 NotImage: the HDU is no image of integers\n"),
     (["edit", "--verbose", "a.fits", "/dev/null"], {"a.fits": EMPTY}, "off 1", 1, "line 1: not a command\n", "fitsed: line 1: a word too many: 1\n"),
     # of several files each is named, and what isn't saved is said last
+    (["edit", "-i", "-v", "-a", "-e", "off 1", "a.fits", "b.fits"], {"a.fits": EMPTY, "b.fits": EMPTY}, "", 1, "a.fits:line 1: not a command\nb.fits:line 1: not a command\n", "fitsed: a.fits: line 1: a word too many: 1\nfitsed: a.fits: not saved: 1 line was not done\nfitsed: b.fits: line 1: a word too many: 1\nfitsed: b.fits: not saved: 1 line was not done\n"),
     # --done names each file that is saved, and no other
     (["edit", "-i", "--done", "-e", "off", "a.fits", "b.fits"], {"a.fits": EMPTY, "b.fits": EMPTY}, "", 0, "a.fits:1 0 2880 2880\nb.fits:1 0 2880 2880\n", "a.fits\nb.fits\n"),
     (["edit", "-i", "-a", "--done", "-e", "frob", "a.fits"], {"a.fits": EMPTY}, "", 1, "line 1: not a command\n", "fitsed: a.fits: not saved: 1 line was not done\n"),
-    (["edit", "-i", "-v", "-a", "-e", "off 1", "a.fits", "b.fits"], {"a.fits": EMPTY, "b.fits": EMPTY}, "", 1, "a.fits:line 1: not a command\nb.fits:line 1: not a command\n", "fitsed: a.fits: line 1: a word too many: 1\nfitsed: a.fits: not saved: 1 line was not done\nfitsed: b.fits: line 1: a word too many: 1\nfitsed: b.fits: not saved: 1 line was not done\n"),
 ]
 
 # A script of `edit`, its files, the words, and what they have then; a file that isn't named stays.
@@ -371,6 +382,8 @@ EDITS = [
     (["edit", "--in-place", "-e", SET, "a.fits", "b.fits"], {"a.fits": EMPTY, "b.fits": EMPTY}, 0, {"a.fits": TOLD, "b.fits": TOLD}),
     (["edit", "-i", "-e", SET, "a.fits", "b.fits", "c.fits", "d.fits"], dict.fromkeys(["a.fits", "b.fits", "c.fits", "d.fits"], EMPTY), 0, dict.fromkeys(["a.fits", "b.fits", "c.fits", "d.fits"], TOLD)),
     (["edit", "-e", SET, "-i", "a.fits", "b.fits", "c.fits"], {"a.fits": EMPTY, "b.fits": b"no", "c.fits": EMPTY}, 2, {"a.fits": TOLD, "c.fits": TOLD}),
+    (["edit", "-ir", "-e", SET, "night"], {"night/a.fits": EMPTY, "night/b/c.fit": EMPTY, "night/d": EMPTY}, 0, {"night/a.fits": TOLD, "night/b/c.fit": TOLD}),
+    (["edit", "-r", "-e", SET, "night", "b.fits"], NIGHT, 2, {}),
     (["edit", "-a", "-e", SET, "a.fits", "b.fits"], {"a.fits": EMPTY}, 0, {"b.fits": TOLD}),
     (["edit", "-a", "-e", SET, "-e", "frob", "a.fits", "b.fits"], {"a.fits": EMPTY}, 1, {}),
     (["edit", "-a", "-i", "-e", SET, "-e", "del 1 4", "a.fits"], {"a.fits": EMPTY}, 0, {}),

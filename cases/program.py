@@ -59,14 +59,17 @@ class Program:
         """A new folder with these files, in one for such folders or at this path."""
         with tempfile.TemporaryDirectory(dir=at) as room:
             for name, what in files.items():
-                (pathlib.Path(room) / name).write_bytes(what)
+                path = pathlib.Path(room) / name
+                path.parent.mkdir(parents=True, exist_ok=True)
+                path.write_bytes(what)
             yield room
 
     def over(self, words, files, script):
         """These words in a folder with these files, and what it has then."""
         with self._given(words, files) as (room, how):
             ran = subprocess.run([self.path, *words], check=False, input=script, capture_output=True, timeout=60, **how)
-            after = {it.name: files[it.name] if it.is_symlink() else it.read_bytes() for it in pathlib.Path(room).iterdir()}
+            paths = {str(it.relative_to(room)): it for it in pathlib.Path(room).rglob("*") if it.is_symlink() or not it.is_dir()}
+            after = {name: files[name] if it.is_symlink() else it.read_bytes() for name, it in paths.items()}
         return Ran(ran.returncode, ran.stdout, ran.stderr, None), after
 
     @contextlib.contextmanager

@@ -16,12 +16,12 @@ _fitsed() {
             ;;
     esac
     case $command in
-        edit) flags='--all --check --warnings --sums --in-place --done --no-clobber --safe --backup --line --file --with-filename --verbose' ;;
-        ask) flags='--line --file --with-filename --verbose' ;;
-        cards) flags='--hdu --name --with-filename --verbose' ;;
-        list | stat) flags='--with-filename --verbose' ;;
-        sum) flags='--check --with-filename --verbose' ;;
-        verify) flags='--errors --quiet --print-cards --warnings --files-with-errors --with-filename --verbose' ;;
+        edit) flags='--all --check --warnings --sums --in-place --done --no-clobber --safe --backup --line --file --with-filename --recursive --verbose' ;;
+        ask) flags='--line --file --with-filename --recursive --verbose' ;;
+        cards) flags='--hdu --name --with-filename --recursive --verbose' ;;
+        list | stat) flags='--with-filename --recursive --verbose' ;;
+        sum) flags='--check --with-filename --recursive --verbose' ;;
+        verify) flags='--errors --quiet --print-cards --warnings --files-with-errors --with-filename --recursive --verbose' ;;
         *) return ;;
     esac
     case $word in

@@ -21,6 +21,7 @@ const EDITS: Form = Form {
         Word::File,
         Word::Verbose(WHY_LINES),
         Word::Named,
+        Word::RecursiveInPlace,
         Word::Flag("all", 'a', "Save nothing unless every line is done"),
         Word::Flag(
             "check",
@@ -62,6 +63,7 @@ const ASKS: Form = Form {
         Word::File,
         Word::Verbose(WHY_LINES),
         Word::Named,
+        Word::Recursive,
         Word::Files,
     ],
 };
@@ -74,6 +76,7 @@ const SHOWS: Form = Form {
     words: &[
         Word::Verbose(WHY_FILES),
         Word::Named,
+        Word::Recursive,
         Word::Files,
         Word::Hdu,
         Word::Name,
@@ -85,7 +88,12 @@ const LISTS: Form = Form {
     about: LIST,
     help: LISTED,
     usage: None,
-    words: &[Word::Verbose(WHY_FILES), Word::Named, Word::Files],
+    words: &[
+        Word::Verbose(WHY_FILES),
+        Word::Named,
+        Word::Recursive,
+        Word::Files,
+    ],
 };
 
 const SUMS: Form = Form {
@@ -96,6 +104,7 @@ const SUMS: Form = Form {
     words: &[
         Word::Verbose(WHY_FILES),
         Word::Named,
+        Word::Recursive,
         Word::Files,
         Word::Flag(
             "check",
@@ -110,7 +119,12 @@ const STATES: Form = Form {
     about: STAT,
     help: STATED,
     usage: None,
-    words: &[Word::Verbose(WHY_FILES), Word::Named, Word::Files],
+    words: &[
+        Word::Verbose(WHY_FILES),
+        Word::Named,
+        Word::Recursive,
+        Word::Files,
+    ],
 };
 
 const VERIFIES: Form = Form {
@@ -121,6 +135,7 @@ const VERIFIES: Form = Form {
     words: &[
         Word::Verbose(WHY_FILES),
         Word::Named,
+        Word::Recursive,
         Word::Files,
         Word::Flag("errors", 'e', "List errors alone"),
         Word::Flag("quiet", 'q', "List nothing: print the counts alone"),

@@ -8,6 +8,7 @@ ghost use Rattle.fitsed.specs.Saving.{is_saved, status_of_saving, IsPlaced, Stan
 use crate::detail::Detail;
 use crate::explaining::INPUT;
 use crate::files::{Standing, is_stored, mode_of, standing_at};
+use crate::listed::{FileList, listed};
 use crate::piece::{Piece, script_of};
 use crate::remarks::{before_remarks, remarks_after};
 use crate::reporting::{
@@ -71,7 +72,7 @@ pub fn edit<R: Files<File = File> + Input + Print + Eprint + AllocGlobal>(
 
 /// Edits each file where it stands, by the same script. The status is the greatest. If it `tells`,
 /// the name of each goes to standard error once it is saved.
-pub fn edit_in_place<R: Files<File = File> + Input + Print + Eprint + AllocGlobal>(
+pub fn edit_in_place<R: Files<File = File> + Input + Print + Eprint + AllocGlobal + Clone + Drop>(
     rt: &R,
     script: &[Piece<'_>],
     files: Inputs<'_, '_>,
@@ -86,8 +87,10 @@ pub fn edit_in_place<R: Files<File = File> + Input + Print + Eprint + AllocGloba
     let Ok(mut out) = BufWriter::new(rt.alloc(), io::writer(rt)) else {
         return reported(rt, Fault::Memory);
     };
-    let mut status = 0;
-    for path in files.paths {
+    let Ok(FileList { paths, mut status }) = listed(rt, files) else {
+        return reported(rt, Fault::Memory);
+    };
+    for path in &paths {
         if let Some(oddity) = oddity_of(path) {
             status = status.max(reported_oddity(rt, oddity));
             continue;

@@ -8,6 +8,7 @@ mod explaining;
 mod files;
 mod form;
 mod help;
+mod listed;
 mod noted;
 mod piece;
 mod reading;
@@ -76,7 +77,7 @@ fn asked(rt: &HostRuntime, words: &[String], matches: &ArgMatches<'_>) -> u8 {
 }
 
 // Does a task, and gives its status.
-fn status_of<R: Files<File = File> + Input + Print + Eprint + AllocGlobal>(
+fn status_of<R: Files<File = File> + Input + Print + Eprint + AllocGlobal + Clone + Drop>(
     rt: &R,
     detail: Detail<'_>,
     task: Task<'_, '_>,
@@ -100,12 +101,14 @@ fn status_of<R: Files<File = File> + Input + Print + Eprint + AllocGlobal>(
             script,
             paths,
             named,
+            recursive,
             done,
             terms,
         } => {
             let files = Inputs {
                 paths: &paths,
                 named,
+                recursive,
             };
             edit_in_place(rt, &script, files, done, terms, detail)
         }

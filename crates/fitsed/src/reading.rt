@@ -4,6 +4,7 @@ ghost use Rattle.fitsed.specs.Running.{AsksFile};
 use crate::detail::Detail;
 use crate::explaining::INPUT;
 use crate::files::{is_stored, source_of};
+use crate::listed::{FileList, listed};
 use crate::piece::{Piece, script_of};
 use crate::remarks::{before_remarks, remarks_after};
 use crate::reporting::{
@@ -44,13 +45,13 @@ impl Job<'_> {
 
 /// Does a script on each file, and saves nothing. Over one file standard input is answered as it
 /// comes.
-pub fn ask<R: rt::Files<File = File> + Input + Print + Eprint + AllocGlobal>(
+pub fn ask<R: rt::Files<File = File> + Input + Print + Eprint + AllocGlobal + Clone + Drop>(
     rt: &R,
     script: &[Piece<'_>],
     files: Inputs<'_, '_>,
     detail: Detail<'_>,
 ) -> u8 {
-    if let (true, [path]) = (script.is_empty(), files.paths) {
+    if let (true, false, [path]) = (script.is_empty(), files.recursive, files.paths) {
         let subject = Subject {
             name: path,
             named: files.named,
@@ -65,7 +66,7 @@ pub fn ask<R: rt::Files<File = File> + Input + Print + Eprint + AllocGlobal>(
 }
 
 /// Does a job with each file. The status is the greatest.
-pub fn each<R: rt::Files<File = File> + Print + Eprint + AllocGlobal>(
+pub fn each<R: rt::Files<File = File> + Print + Eprint + AllocGlobal + Clone + Drop>(
     rt: &R,
     job: Job<'_>,
     files: Inputs<'_, '_>,
@@ -74,8 +75,10 @@ pub fn each<R: rt::Files<File = File> + Print + Eprint + AllocGlobal>(
     let Ok(mut out) = BufWriter::new(rt.alloc(), io::writer(rt)) else {
         return reported(rt, Fault::Memory);
     };
-    let mut status = 0;
-    for path in files.paths {
+    let Ok(FileList { paths, mut status }) = listed(rt, files) else {
+        return reported(rt, Fault::Memory);
+    };
+    for path in &paths {
         if let Some(oddity) = oddity_of(path) {
             status = status.max(reported_oddity(rt, oddity));
             continue;
@@ -100,14 +103,16 @@ pub fn each<R: rt::Files<File = File> + Print + Eprint + AllocGlobal>(
 }
 
 /// Prints the names of the files of which a report has something, and of those that don't open.
-pub fn name<R: rt::Files<File = File> + Print + Eprint + AllocGlobal>(
+pub fn name<R: rt::Files<File = File> + Print + Eprint + AllocGlobal + Clone + Drop>(
     rt: &R,
     telling: Telling,
     files: Inputs<'_, '_>,
     detail: Detail<'_>,
 ) -> u8 {
-    let mut status = 0;
-    for path in files.paths {
+    let Ok(FileList { paths, mut status }) = listed(rt, files) else {
+        return reported(rt, Fault::Memory);
+    };
+    for path in &paths {
         if let Some(oddity) = oddity_of(path) {
             status = status.max(reported_oddity(rt, oddity));
             continue;

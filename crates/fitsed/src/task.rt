@@ -25,6 +25,7 @@ pub enum Task<'m, 'a> {
         script: Vec<Piece<'a>>,
         paths: Vec<&'a str>,
         named: bool,
+        recursive: bool,
         /// Whether the name of each is told once it is saved.
         done: bool,
         terms: SavingTerms<'a>,
@@ -75,11 +76,14 @@ impl SavingTerms<'_> {
     }
 }
 
-/// The files that a command reads, and whether each line of its output is told the file's name.
+/// The files that a command reads.
 #[derive(Clone, Copy)]
 pub struct Inputs<'m, 'a> {
     pub paths: &'m [&'a str],
+    /// Whether each line of its output begins with the file's name.
     pub named: bool,
+    /// Whether a folder stands for the files below it.
+    pub recursive: bool,
 }
 
 /// Why words ask for nothing.
@@ -159,10 +163,12 @@ fn edit_of<'m, 'a>(
     let named = words.get_flag("with-filename");
     if words.get_flag("in-place") {
         let paths = paths_of(alloc, words, from)?;
+        let recursive = words.get_flag("recursive");
         return Ok(Task::EditInPlace {
             script,
-            named: are_named(&paths, named)?,
+            named: are_named(&paths, named || recursive)?,
             paths,
+            recursive,
             done: words.get_flag("done"),
             terms,
         });
@@ -218,9 +224,11 @@ fn files_of<'m, 'a>(words: &'m ArgMatches<'a>) -> Result<Inputs<'m, 'a>, TaskFau
     let Some(paths) = words.get_strs("IN") else {
         return Err(TaskFault::Missing);
     };
+    let recursive = words.get_flag("recursive");
     Ok(Inputs {
         paths,
-        named: are_named(paths, words.get_flag("with-filename"))?,
+        named: are_named(paths, words.get_flag("with-filename") || recursive)?,
+        recursive,
     })
 }
 

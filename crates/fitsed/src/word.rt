@@ -27,6 +27,10 @@ pub enum Word {
     Hdu,
     /// A keyword whose cards are printed.
     Name,
+    /// Whether a folder stands for the files below it.
+    Recursive,
+    /// The same of files that are edited in place.
+    RecursiveInPlace,
     /// The file to edit.
     In,
     /// The file to write.
@@ -50,6 +54,8 @@ impl Word {
             Word::NoClobber => no_clobber(alloc),
             Word::Backup => Ok(backup(alloc)),
             Word::Named => Ok(named(alloc)),
+            Word::Recursive => Ok(recursive(alloc)),
+            Word::RecursiveInPlace => recursive(alloc).requires_arg("in-place"),
             Word::Hdu => Ok(hdu(alloc)),
             Word::Name => Ok(name(alloc)),
             Word::In => Ok(path(alloc, "IN", "The file to read").required(true)),
@@ -100,6 +106,11 @@ fn backup<'a>(alloc: Global) -> Arg<'a> {
 fn named<'a>(alloc: Global) -> Arg<'a> {
     let help = "Print the name of the file before each line, also of one file";
     flag(alloc, "with-filename", 'H', help)
+}
+
+fn recursive<'a>(alloc: Global) -> Arg<'a> {
+    let help = "Of a folder take the files below it that end in .fits, .fit, .fts or .fz";
+    flag(alloc, "recursive", 'r', help)
 }
 
 fn hdu<'a>(alloc: Global) -> Arg<'a> {

@@ -1,0 +1,94 @@
+//! The files that paths stand for, where folders stand for those below them.
+use crate::task::Inputs;
+use std::alloc::AllocError;
+use std::io::ErrorKind;
+use std::rt::Files;
+use std::{fs, io};
+
+/// What the names end in of files that a folder stands for.
+const ENDINGS: &[&str] = &[".fits", ".fit", ".fts", ".fz"];
+
+/// The status where a folder can't be read.
+const UNREAD: u8 = 3;
+
+/// Files, and the status of folders that stand for some and can't be read.
+#[derive(Drop)]
+pub struct FileList {
+    pub paths: Vec<String>,
+    pub status: u8,
+}
+
+/// The files that paths stand for: each path for itself; a folder, where they are gone through, for
+/// the files below it, in the order of their paths. Standard error is told of one that can't be read.
+pub fn listed<R: Files + Eprint + AllocGlobal + Clone + Drop>(
+    rt: &R,
+    files: Inputs<'_, '_>,
+) -> Result<FileList, AllocError> {
+    let mut all = FileList {
+        paths: Vec::new(rt.alloc()),
+        status: 0,
+    };
+    for path in files.paths {
+        if files.recursive && is_folder(rt, path) {
+            add_below(rt, path, &mut all)?;
+        } else {
+            all.paths.push(String::from_str(rt.alloc(), path)?)?;
+        }
+    }
+    Ok(all)
+}
+
+fn is_folder<R: Files>(rt: &R, path: &str) -> bool {
+    matches!(fs::metadata(rt, path), Ok(about) if about.is_dir())
+}
+
+// Adds the files below a folder, whatever folders they are in.
+fn add_below<R: Files + Eprint + AllocGlobal + Clone + Drop>(
+    rt: &R,
+    folder: &str,
+    all: &mut FileList,
+) -> Result<(), AllocError> {
+    let mut files = Vec::new(rt.alloc());
+    let mut folders = Vec::new(rt.alloc());
+    folders.push(String::from_str(rt.alloc(), folder)?)?;
+    for _turn in 0..usize::MAX {
+        let Some(next) = folders.pop() else {
+            break;
+        };
+        match add_inside(rt, &next, &mut folders, &mut files) {
+            Ok(()) => {}
+            Err(why) if why.kind() == ErrorKind::OutOfMemory => return Err(AllocError),
+            Err(why) => {
+                let _ = eprintln!(rt; "fitsed: {next}: {why}");
+                all.status = UNREAD;
+            }
+        }
+    }
+    files.sort_unstable();
+    for file in files {
+        all.paths.push(file)?;
+    }
+    Ok(())
+}
+
+// Adds what stands in a folder: folders, and files with the endings.
+fn add_inside<R: Files + AllocGlobal + Clone + Drop>(
+    rt: &R,
+    folder: &str,
+    folders: &mut Vec<String>,
+    files: &mut Vec<String>,
+) -> io::Result<()> {
+    for entry in fs::read_dir(rt, folder)? {
+        let entry = entry?;
+        let Some(path) = entry.path().to_str() else {
+            return Err(io::Error::from(ErrorKind::InvalidFilename));
+        };
+        let path = String::from_str(rt.alloc(), path)?;
+        if entry.file_type()?.is_dir() {
+            folders.push(path)?;
+        } else if ENDINGS.iter().any(|ending| path.ends_with(ending)) {
+            files.push(path)?;
+        }
+    }
+    Ok(())
+}
