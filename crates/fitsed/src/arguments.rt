@@ -1,15 +1,15 @@
 //! The words that the command line takes, as clap reads them.
 use crate::form::Form;
 use crate::help::{
-    ABOUT, ASK, CARDS, EDIT, EDIT_USAGE, FOUND, LINES, LIST, LISTED, SHOWN, STAT, STATED, STATUSES,
-    SUM, SUMMED, VERIFY, VERSION, WHY_FILES, WHY_LINES,
+    ABOUT, ASK, CARDS, EDIT, EDIT_USAGE, FOUND, KEYED, KEYS, LINES, LIST, LISTED, SHOWN, STAT,
+    STATED, STATUSES, SUM, SUMMED, VERIFY, VERSION, WHY_FILES, WHY_LINES,
 };
 use crate::word::Word;
 use clap::Command;
 use std::alloc::{AllocError, Global};
 
 // The commands, as the help lists them.
-const FORMS: &[Form] = &[EDITS, ASKS, SHOWS, LISTS, SUMS, STATES, VERIFIES];
+const FORMS: &[Form] = &[EDITS, ASKS, SHOWS, TABLES, LISTS, SUMS, STATES, VERIFIES];
 
 const EDITS: Form = Form {
     name: "edit",
@@ -80,6 +80,20 @@ const SHOWS: Form = Form {
         Word::Files,
         Word::Hdu,
         Word::Name,
+    ],
+};
+
+const TABLES: Form = Form {
+    name: "keys",
+    about: KEYS,
+    help: KEYED,
+    usage: None,
+    words: &[
+        Word::Verbose(WHY_FILES),
+        Word::Recursive,
+        Word::Files,
+        Word::OneHdu,
+        Word::Keyword,
     ],
 };
 

@@ -29,6 +29,8 @@ pub(crate) const VERIFY: &str = "Prints what is wrong with a file, and counts it
 
 pub(crate) const CARDS: &str = "Prints the cards of headers";
 
+pub(crate) const KEYS: &str = "Prints the values of keywords, a line for each file";
+
 pub(crate) const STATUSES: &str = "Exit status:
   0  done
   1  a line of the script was refused or bad; verify found an error, or edit -c more than there
@@ -97,6 +99,16 @@ Exit status:
   1  a card has bytes that aren't text, printed as ?; or none is printed though some are asked for
   2  a wrong command line, or a file that doesn't open
   3  the file can't be read, the cards can't be written, or memory ran out";
+
+pub(crate) const KEYED: &str =
+    "Each line: FILE, and the value of each NAME after a tab; the first line has the names
+  Values are as get prints them, strings without quotes. A field is empty where no card of the
+  NAME has a value that can be read, or the file has no such HDU.
+
+Exit status:
+  0  done
+  2  a wrong command line, or a file that doesn't open
+  3  the file can't be read, the lines can't be written, or memory ran out";
 
 pub(crate) const LINES: &str = "Lines of the script, words separated by one space:
   ins H P CARD         insert a card at place P of HDU H

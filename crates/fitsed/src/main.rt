@@ -114,6 +114,7 @@ fn status_of<R: Files<File = File> + Input + Print + Eprint + AllocGlobal + Clon
         }
         Task::Ask { script, files } => ask(rt, &script, files, detail),
         Task::Show { choice, files } => each(rt, Job::Show(&choice), files, detail),
+        Task::Table { choice, files } => each(rt, Job::Table(&choice), files, detail),
         Task::Tell { telling, files } => each(rt, Job::Tell(telling), files, detail),
         Task::Name { telling, files } => name(rt, telling, files, detail),
     }
@@ -133,6 +134,7 @@ fn unsettled<R: Eprint>(rt: &R, words: &[String], detail: Detail<'_>, why: TaskF
             };
             eprintln!(rt; "fitsed: not a keyword name: {name}: more than 8 {unit}")
         }
+        TaskFault::NotName(word) => eprintln!(rt; "fitsed: not a keyword name: {word}"),
         TaskFault::NotHdu(word) => eprintln!(rt; "fitsed: not the number of an HDU: {word}"),
         TaskFault::Missing => Ok(()),
     };

@@ -15,7 +15,9 @@ use crate::subject::Subject;
 use crate::task::Inputs;
 use crate::words::oddity_of;
 use fits_cli::{CardChoice, End, Fault, Telling, run_ask, run_ask_stored, run_cards, run_telling};
+use fits_keys::{KeyChoice, heading, run_keys};
 use fits_stream::{NamedLines, ReadLog, Sink, Source, Watched};
+use fits_tell::print_at_once;
 use std::alloc::{AllocError, Global};
 use std::fs::File;
 use std::io::{BufWriter, Write};
@@ -28,6 +30,8 @@ pub enum Job<'j> {
     Ask(&'j [u8]),
     /// Its cards are shown.
     Show(&'j CardChoice),
+    /// Values of its keywords are printed.
+    Table(&'j KeyChoice),
     /// A text of it is printed.
     Tell(Telling),
 }
@@ -78,6 +82,9 @@ pub fn each<R: rt::Files<File = File> + Print + Eprint + AllocGlobal + Clone + D
     let Ok(FileList { paths, mut status }) = listed(rt, files) else {
         return reported(rt, Fault::Memory);
     };
+    if let Err(why) = begin(rt.alloc(), job, &mut out) {
+        return reported(rt, why);
+    }
     for path in &paths {
         if let Some(oddity) = oddity_of(path) {
             status = status.max(reported_oddity(rt, oddity));
@@ -157,7 +164,7 @@ fn one<R: rt::Files<File = File> + Eprint + AllocGlobal, W: Write>(
         let mut out = Watched::new(out);
         return run(rt, job, subject, file, &mut out);
     }
-    let Ok(name) = before_lines(rt.alloc(), subject.name) else {
+    let Ok(name) = before_lines_of(rt.alloc(), job, subject.name) else {
         return End::from(Fault::Memory);
     };
     let mut out = NamedLines::new(Watched::new(out), name.as_bytes());
@@ -210,6 +217,7 @@ fn run<R: Eprint + AllocGlobal, O: Sink>(
             report_changed(rt, subject.name, &done.changed);
             done.end
         }
+        Job::Table(choice) => run_keys(rt.alloc(), choice, &mut source_of(file), out),
         Job::Tell(telling) => run_telling(rt.alloc(), telling, &mut source_of(file), out),
     }
 }
@@ -235,6 +243,25 @@ fn asked<S: Source, O: Sink>(
         return run_ask_stored(alloc, &file, &mut ReadLog::none(), script, out, &mut told);
     }
     run_ask(alloc, &mut Watched::new(file), script, out, &mut told)
+}
+
+// Prints what stands above the lines of all files: the names of the columns of a table.
+fn begin<W: Write>(alloc: Global, job: Job<'_>, out: &mut W) -> Result<(), Fault> {
+    match job {
+        Job::Table(choice) => {
+            let line = heading(alloc, &choice.names)?;
+            print_at_once(&mut Watched::new(out), &line)
+        }
+        _ => Ok(()),
+    }
+}
+
+// What stands before each line of a job: in a table the name is the first field.
+fn before_lines_of(alloc: Global, job: Job<'_>, path: &str) -> Result<String, AllocError> {
+    match job {
+        Job::Table(_) => String::from_str(alloc, path),
+        _ => before_lines(alloc, path),
+    }
 }
 
 // What stands before each line: the name and a colon.

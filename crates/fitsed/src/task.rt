@@ -2,7 +2,9 @@
 use crate::piece::{Piece, pieces_of};
 use crate::words::oddity_of;
 use clap::ArgMatches;
+use fits_card::Name;
 use fits_cli::{CardChoice, Level, NamePattern, Telling};
+use fits_keys::KeyChoice;
 use fits_save::Saving;
 use std::alloc::{AllocError, Global};
 
@@ -38,6 +40,11 @@ pub enum Task<'m, 'a> {
     /// Cards of each file are printed.
     Show {
         choice: CardChoice,
+        files: Inputs<'m, 'a>,
+    },
+    /// Values of keywords of each file are printed.
+    Table {
+        choice: KeyChoice,
         files: Inputs<'m, 'a>,
     },
     /// A text of each file is printed.
@@ -91,6 +98,8 @@ pub struct Inputs<'m, 'a> {
 pub enum TaskFault<'a> {
     /// A keyword name has more than 8 characters.
     LongName(&'a str),
+    /// A word is no name of one keyword.
+    NotName(&'a str),
     /// An HDU's number is none.
     NotHdu(&'a str),
     /// An argument isn't UTF-8, and is no path among several.
@@ -130,6 +139,13 @@ pub fn task_of<'m, 'a>(
         "cards" => Task::Show {
             choice: choice_of(alloc, words)?,
             files,
+        },
+        "keys" => Task::Table {
+            choice: keys_of(alloc, words)?,
+            files: Inputs {
+                named: true,
+                ..files
+            },
         },
         "verify" if words.get_flag("files-with-errors") => Task::Name {
             telling: report_of(words, Level::Quiet, false),
@@ -298,4 +314,31 @@ fn choice_of<'a>(alloc: Global, words: &ArgMatches<'a>) -> Result<CardChoice, Ta
         };
     }
     Ok(CardChoice { hdus, names })
+}
+
+// Which keywords the words of `keys` ask for.
+fn keys_of<'a>(alloc: Global, words: &ArgMatches<'a>) -> Result<KeyChoice, TaskFault<'a>> {
+    let hdu = match words.get_str("hdu") {
+        Some(word) => word.parse::<u64>().map_err(|_| TaskFault::NotHdu(word))?,
+        None => 1,
+    };
+    let mut names = Vec::new(alloc);
+    for word in words.get_strs("name").unwrap_or(&[]) {
+        let Some(name) = name_of(word) else {
+            return Err(TaskFault::NotName(*word));
+        };
+        let Ok(()) = names.push(name) else {
+            return Err(TaskFault::Memory);
+        };
+    }
+    Ok(KeyChoice { hdu, names })
+}
+
+// The keyword that a word is; none where it is the front of several.
+fn name_of(word: &str) -> Option<Name> {
+    if word.ends_with('*') {
+        return None;
+    }
+    let pattern = NamePattern::of(word.as_bytes())?;
+    Some(pattern.name)
 }

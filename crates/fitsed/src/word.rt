@@ -31,6 +31,10 @@ pub enum Word {
     Recursive,
     /// The same of files that are edited in place.
     RecursiveInPlace,
+    /// The HDU whose keywords are asked for.
+    OneHdu,
+    /// A keyword that is asked for.
+    Keyword,
     /// The file to edit.
     In,
     /// The file to write.
@@ -58,6 +62,8 @@ impl Word {
             Word::RecursiveInPlace => recursive(alloc).requires_arg("in-place"),
             Word::Hdu => Ok(hdu(alloc)),
             Word::Name => Ok(name(alloc)),
+            Word::OneHdu => Ok(one_hdu(alloc)),
+            Word::Keyword => Ok(keyword(alloc)),
             Word::In => Ok(path(alloc, "IN", "The file to read").required(true)),
             Word::Out => out(alloc),
             Word::More => more(alloc),
@@ -121,6 +127,22 @@ fn hdu<'a>(alloc: Global) -> Arg<'a> {
 fn name<'a>(alloc: Global) -> Arg<'a> {
     let help = "Cards of this keyword alone; may be repeated";
     list(alloc, "name", 'k', "NAME", help).allow_hyphen_values(true)
+}
+
+fn one_hdu<'a>(alloc: Global) -> Arg<'a> {
+    Arg::new(alloc, "hdu")
+        .short('u')
+        .long("hdu")
+        .value_name("HDU")
+        .action(ArgAction::Set)
+        .help("The HDU that has the keywords, 1 where none is given")
+}
+
+fn keyword<'a>(alloc: Global) -> Arg<'a> {
+    let help = "A keyword, which is a column of the table; may be repeated";
+    list(alloc, "name", 'k', "NAME", help)
+        .allow_hyphen_values(true)
+        .required(true)
 }
 
 fn out<'a>(alloc: Global) -> Result<Arg<'a>, AllocError> {
