@@ -143,6 +143,16 @@ ROWS = [
     (["sum", "a.fits"], {"a.fits": b"no"}, "", 2, "", "fitsed: open refused O1 NotFits\n"),
     (["sum", "-H", "a.fits"], {"a.fits": b"no"}, "", 2, "", "fitsed: a.fits: open refused O1 NotFits\n"),
     (["sum", "none.fits"], {}, "", 3, "", "fitsed: read failed\n"),
+    # a table of keywords: a line of names, then one for each file; a field is empty where the header says nothing
+    (["keys", "-k", "OBJECT", "-k", "BITPIX", "-k", "SIMPLE", "a.fits", "b.fits"], {"a.fits": TOLD, "b.fits": EMPTY}, "", 0, "file\tOBJECT\tBITPIX\tSIMPLE\na.fits\tM31\t8\tT\nb.fits\t\t8\tT\n", ""),
+    (["keys", "-u", "2", "-k", "BITPIX", "a.fits", "b.fits"], {"a.fits": IMAGES, "b.fits": EMPTY}, "", 0, "file\tBITPIX\na.fits\t16\nb.fits\t\n", ""),
+    (["keys", "--name", "TEXT", "--name", "PAIR", "a.fits"], {"a.fits": with_cards("TEXT    = 'it''s &'|CONTINUE  'long'|PAIR    = (1, -2.5)|TEXT    = 'no'")}, "", 0, "file\tTEXT\tPAIR\na.fits\tit's long\t(1, -2.5)\n", ""),
+    (["keys", "-k", "A", "-k", "B", "-k", "C", "a.fits"], {"a.fits": with_cards("A       =|B       = 1 2|C       = 'x'")}, "", 0, "file\tA\tB\tC\na.fits\t\t\tx\n", ""),
+    (["keys", "-k", "A", "a.fits", "none.fits", "b.fits"], {"a.fits": b"no", "b.fits": EMPTY}, "", 3, "file\tA\nb.fits\t\n", "fitsed: a.fits: open refused O1 NotFits\nfitsed: none.fits: read failed\n"),
+    (["keys", "-k", "A*", "a.fits"], {"a.fits": EMPTY}, "", 2, "", "fitsed: not a keyword name: A*\n"),
+    (["keys", "-k", "LONGNAMES", "a.fits"], {"a.fits": EMPTY}, "", 2, "", "fitsed: not a keyword name: LONGNAMES\n"),
+    (["keys", "-u", "x", "-k", "A", "a.fits"], {"a.fits": EMPTY}, "", 2, "", "fitsed: not the number of an HDU: x\n"),
+    (["keys", "a.fits"], {"a.fits": EMPTY}, "", 2, "", None),
     # cards
     (["cards", "a.fits"], {"a.fits": LONGS}, "", 0, "\n".join(NAMES) + "\n", ""),
     (["cards", "-k", "OBJECT", "a.fits"], {"a.fits": LONGS}, "", 0, NAMES[6] + "\n", ""),

@@ -55,13 +55,8 @@ fn add_below<R: Files + Eprint + AllocGlobal + Clone + Drop>(
         let Some(next) = folders.pop() else {
             break;
         };
-        match add_inside(rt, &next, &mut folders, &mut files) {
-            Ok(()) => {}
-            Err(why) if why.kind() == ErrorKind::OutOfMemory => return Err(AllocError),
-            Err(why) => {
-                let _ = eprintln!(rt; "fitsed: {next}: {why}");
-                all.status = UNREAD;
-            }
+        if !is_gone_through(rt, &next, &mut folders, &mut files)? {
+            all.status = UNREAD;
         }
     }
     files.sort_unstable();
@@ -69,6 +64,24 @@ fn add_below<R: Files + Eprint + AllocGlobal + Clone + Drop>(
         all.paths.push(file)?;
     }
     Ok(())
+}
+
+// Adds what stands in a folder, and says whether all of it can be read. Standard error is told where
+// it can't.
+fn is_gone_through<R: Files + Eprint + AllocGlobal + Clone + Drop>(
+    rt: &R,
+    folder: &str,
+    folders: &mut Vec<String>,
+    files: &mut Vec<String>,
+) -> Result<bool, AllocError> {
+    match add_inside(rt, folder, folders, files) {
+        Ok(()) => Ok(true),
+        Err(why) if why.kind() == ErrorKind::OutOfMemory => Err(AllocError),
+        Err(why) => {
+            let _ = eprintln!(rt; "fitsed: {folder}: {why}");
+            Ok(false)
+        }
+    }
 }
 
 // Adds what stands in a folder: folders, and files with the endings.
