@@ -64,6 +64,7 @@ const ASKS: Form = Form {
         Word::Verbose(WHY_LINES),
         Word::Named,
         Word::Recursive,
+        Word::NamesFrom,
         Word::Files,
     ],
 };
@@ -77,9 +78,12 @@ const SHOWS: Form = Form {
         Word::Verbose(WHY_FILES),
         Word::Named,
         Word::Recursive,
+        Word::NamesFrom,
         Word::Files,
         Word::Hdu,
         Word::Name,
+        Word::Lacking,
+        Word::Null("files-without"),
     ],
 };
 
@@ -91,6 +95,7 @@ const TABLES: Form = Form {
     words: &[
         Word::Verbose(WHY_FILES),
         Word::Recursive,
+        Word::NamesFrom,
         Word::Files,
         Word::OneHdu,
         Word::Keyword,
@@ -106,6 +111,7 @@ const LISTS: Form = Form {
         Word::Verbose(WHY_FILES),
         Word::Named,
         Word::Recursive,
+        Word::NamesFrom,
         Word::Files,
     ],
 };
@@ -119,6 +125,7 @@ const SUMS: Form = Form {
         Word::Verbose(WHY_FILES),
         Word::Named,
         Word::Recursive,
+        Word::NamesFrom,
         Word::Files,
         Word::Flag(
             "check",
@@ -137,6 +144,7 @@ const STATES: Form = Form {
         Word::Verbose(WHY_FILES),
         Word::Named,
         Word::Recursive,
+        Word::NamesFrom,
         Word::Files,
     ],
 };
@@ -150,6 +158,7 @@ const VERIFIES: Form = Form {
         Word::Verbose(WHY_FILES),
         Word::Named,
         Word::Recursive,
+        Word::NamesFrom,
         Word::Files,
         Word::Flag("errors", 'e', "List errors alone"),
         Word::Flag("quiet", 'q', "List nothing: print the counts alone"),
@@ -164,6 +173,7 @@ const VERIFIES: Form = Form {
             'l',
             "Print the names alone of files with errors, and of those that don't open",
         ),
+        Word::Null("files-with-errors"),
     ],
 };
 

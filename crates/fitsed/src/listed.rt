@@ -1,7 +1,8 @@
 //! The files that paths stand for, where folders stand for those below them.
 use crate::task::Inputs;
 use std::alloc::AllocError;
-use std::io::ErrorKind;
+use std::fs::File;
+use std::io::{ErrorKind, Read};
 use std::rt::Files;
 use std::{fs, io};
 
@@ -20,7 +21,7 @@ pub struct FileList {
 
 /// The files that paths stand for: each path for itself; a folder, where they are gone through, for
 /// the files below it, in the order of their paths. Standard error is told of one that can't be read.
-pub fn listed<R: Files + Eprint + AllocGlobal + Clone + Drop>(
+pub fn listed<R: Files<File = File> + Input + Eprint + AllocGlobal + Clone + Drop>(
     rt: &R,
     files: Inputs<'_, '_>,
 ) -> Result<FileList, AllocError> {
@@ -35,7 +36,57 @@ pub fn listed<R: Files + Eprint + AllocGlobal + Clone + Drop>(
             all.paths.push(String::from_str(rt.alloc(), path)?)?;
         }
     }
+    match files.from {
+        Some(path) => add_named(rt, path, &mut all)?,
+        None => {}
+    }
     Ok(all)
+}
+
+// Adds the files whose names a file has, a zero byte after each.
+fn add_named<R: Files<File = File> + Input + Eprint + AllocGlobal>(
+    rt: &R,
+    path: &str,
+    all: &mut FileList,
+) -> Result<(), AllocError> {
+    let mut text = Vec::new(rt.alloc());
+    if !is_read(rt, path, &mut text)? {
+        let _ = eprintln!(rt; "fitsed: {path}: read failed");
+        all.status = UNREAD;
+    }
+    let Ok(text) = str::from_utf8(&text) else {
+        let _ = eprintln!(rt; "fitsed: {path}: a name is not UTF-8");
+        all.status = UNREAD;
+        return Ok(());
+    };
+    for name in text.split_terminator('\0') {
+        all.paths.push(String::from_str(rt.alloc(), name)?)?;
+    }
+    Ok(())
+}
+
+// Whether a file, or standard input, is read to its end.
+fn is_read<R: Files<File = File> + Input + AllocGlobal>(
+    rt: &R,
+    path: &str,
+    text: &mut Vec<u8>,
+) -> Result<bool, AllocError> {
+    match read_at(rt, path, text) {
+        Ok(_) => Ok(true),
+        Err(why) if why.kind() == ErrorKind::OutOfMemory => Err(AllocError),
+        Err(_) => Ok(false),
+    }
+}
+
+fn read_at<R: Files<File = File> + Input + AllocGlobal>(
+    rt: &R,
+    path: &str,
+    text: &mut Vec<u8>,
+) -> io::Result<usize> {
+    if path == "-" {
+        return rt.reader().read_to_end(text);
+    }
+    fs::open(rt, path)?.read_to_end(text)
 }
 
 fn is_folder<R: Files>(rt: &R, path: &str) -> bool {

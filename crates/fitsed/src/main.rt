@@ -29,7 +29,7 @@ use clap::{ArgMatches, Error};
 use detail::Detail;
 use editing::{edit, edit_in_place};
 use fits_cli::Fault;
-use reading::{Job, ask, each, name};
+use reading::{Job, Sought, ask, each, name};
 use reporting::{NOT_TAKEN, report_untold, reported, reported_odd_word};
 use std::cell::Cell;
 use std::fs;
@@ -109,6 +109,7 @@ fn status_of<R: Files<File = File> + Input + Print + Eprint + AllocGlobal + Clon
                 paths: &paths,
                 named,
                 recursive,
+                from: None,
             };
             edit_in_place(rt, &script, files, done, terms, detail)
         }
@@ -116,7 +117,16 @@ fn status_of<R: Files<File = File> + Input + Print + Eprint + AllocGlobal + Clon
         Task::Show { choice, files } => each(rt, Job::Show(&choice), files, detail),
         Task::Table { choice, files } => each(rt, Job::Table(&choice), files, detail),
         Task::Tell { telling, files } => each(rt, Job::Tell(telling), files, detail),
-        Task::Name { telling, files } => name(rt, telling, files, detail),
+        Task::Name {
+            telling,
+            files,
+            end,
+        } => name(rt, Sought::Problems(telling), files, end, detail),
+        Task::Lack {
+            choices,
+            files,
+            end,
+        } => name(rt, Sought::Lacking(&choices), files, end, detail),
     }
 }
 

@@ -36,6 +36,13 @@ pub enum Job<'j> {
     Tell(Telling),
 }
 
+impl Sought<'_> {
+    // Whether a file that doesn't open is named too.
+    fn counts_unopened(self) -> bool {
+        matches!(self, Sought::Problems(_))
+    }
+}
+
 impl Job<'_> {
     // Whether it is about values of pixels.
     fn has_values(&self) -> bool {
@@ -70,7 +77,7 @@ pub fn ask<R: rt::Files<File = File> + Input + Print + Eprint + AllocGlobal + Cl
 }
 
 /// Does a job with each file. The status is the greatest.
-pub fn each<R: rt::Files<File = File> + Print + Eprint + AllocGlobal + Clone + Drop>(
+pub fn each<R: rt::Files<File = File> + Input + Print + Eprint + AllocGlobal + Clone + Drop>(
     rt: &R,
     job: Job<'_>,
     files: Inputs<'_, '_>,
@@ -109,11 +116,21 @@ pub fn each<R: rt::Files<File = File> + Print + Eprint + AllocGlobal + Clone + D
     status
 }
 
-/// Prints the names of the files of which a report has something, and of those that don't open.
-pub fn name<R: rt::Files<File = File> + Print + Eprint + AllocGlobal + Clone + Drop>(
+/// What is sought in files whose names are printed.
+#[derive(Clone, Copy)]
+pub enum Sought<'s> {
+    /// A report has something, or the file doesn't open.
+    Problems(Telling),
+    /// There is no card of one of these choices.
+    Lacking(&'s [CardChoice]),
+}
+
+/// Prints the names of the files in which what is sought is found, and ends each so.
+pub fn name<R: rt::Files<File = File> + Input + Print + Eprint + AllocGlobal + Clone + Drop>(
     rt: &R,
-    telling: Telling,
+    sought: Sought<'_>,
     files: Inputs<'_, '_>,
+    ends: char,
     detail: Detail<'_>,
 ) -> u8 {
     let Ok(FileList { paths, mut status }) = listed(rt, files) else {
@@ -133,7 +150,7 @@ pub fn name<R: rt::Files<File = File> + Print + Eprint + AllocGlobal + Clone + D
             named: true,
             ..unnamed
         };
-        let end = one(rt, Job::Tell(telling), unnamed, &mut io::sink());
+        let end = found(rt, sought, unnamed);
         status = status.max(end.status);
         if let Some(fault) = end.fault {
             let _status = reported_of(rt, subject, path, fault);
@@ -141,13 +158,48 @@ pub fn name<R: rt::Files<File = File> + Print + Eprint + AllocGlobal + Clone + D
                 return status;
             }
         }
-        if end.status == 1 || end.status == 2 {
-            if println!(rt; "{path}").is_err() {
+        if end.status == 1 || (end.status == 2 && sought.counts_unopened()) {
+            if print!(rt; "{path}{ends}").is_err() {
                 return reported_of(rt, subject, path, Fault::WriteFailed);
             }
         }
     }
     status
+}
+
+// Looks for what is sought in a file: the status is 1 where it is found.
+fn found<R: rt::Files<File = File> + Eprint + AllocGlobal>(
+    rt: &R,
+    sought: Sought<'_>,
+    subject: Subject<'_>,
+) -> End {
+    match sought {
+        Sought::Problems(telling) => one(rt, Job::Tell(telling), subject, &mut io::sink()),
+        Sought::Lacking(choices) => lacking(rt, choices, subject),
+    }
+}
+
+// The status is 1 where a file has no card of one of these choices.
+fn lacking<R: rt::Files<File = File> + AllocGlobal>(
+    rt: &R,
+    choices: &[CardChoice],
+    subject: Subject<'_>,
+) -> End {
+    for choice in choices {
+        let Ok(file) = fs::open(rt, subject.name) else {
+            return End::from(Fault::ReadFailed);
+        };
+        let mut out = Watched::new(io::sink());
+        let done = run_cards(rt.alloc(), choice, &mut source_of(file), &mut out);
+        let has_some = done.end.status == 0 || !done.changed.is_empty();
+        if done.end.fault.is_some() || !has_some {
+            return done.end;
+        }
+    }
+    End {
+        status: 0,
+        fault: None,
+    }
 }
 
 // Does a job with a file.

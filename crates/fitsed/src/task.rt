@@ -9,7 +9,7 @@ use fits_save::Saving;
 use std::alloc::{AllocError, Global};
 
 /// The options that have values.
-const VALUES: &[&str] = &["line", "file", "hdu", "name", "backup"];
+const VALUES: &[&str] = &["line", "file", "hdu", "name", "backup", "files0-from"];
 
 /// What the command line asks for.
 #[derive(Drop)]
@@ -56,6 +56,13 @@ pub enum Task<'m, 'a> {
     Name {
         telling: Telling,
         files: Inputs<'m, 'a>,
+        end: char,
+    },
+    /// The names of files are printed that have no card of one of these choices.
+    Lack {
+        choices: Vec<CardChoice>,
+        files: Inputs<'m, 'a>,
+        end: char,
     },
 }
 
@@ -91,6 +98,8 @@ pub struct Inputs<'m, 'a> {
     pub named: bool,
     /// Whether a folder stands for the files below it.
     pub recursive: bool,
+    /// The file that has the names of more, if one is given.
+    pub from: Option<&'a str>,
 }
 
 /// Why words ask for nothing.
@@ -136,6 +145,11 @@ pub fn task_of<'m, 'a>(
             script: pieces_of(alloc, words)?,
             files,
         },
+        "cards" if words.get_flag("files-without") => Task::Lack {
+            choices: each_of(alloc, &choice_of(alloc, words)?)?,
+            files,
+            end: name_end(words),
+        },
         "cards" => Task::Show {
             choice: choice_of(alloc, words)?,
             files,
@@ -150,6 +164,7 @@ pub fn task_of<'m, 'a>(
         "verify" if words.get_flag("files-with-errors") => Task::Name {
             telling: report_of(words, Level::Quiet, false),
             files,
+            end: name_end(words),
         },
         _ => Task::Tell {
             telling: telling_of(name, words)?,
@@ -237,14 +252,15 @@ fn paths_of<'a>(
 }
 
 fn files_of<'m, 'a>(words: &'m ArgMatches<'a>) -> Result<Inputs<'m, 'a>, TaskFault<'a>> {
-    let Some(paths) = words.get_strs("IN") else {
-        return Err(TaskFault::Missing);
-    };
+    let paths = words.get_strs("IN").unwrap_or(&[]);
     let recursive = words.get_flag("recursive");
+    let from = words.get_str("files0-from");
+    let named = words.get_flag("with-filename") || recursive || from.is_some();
     Ok(Inputs {
         paths,
-        named: are_named(paths, words.get_flag("with-filename") || recursive)?,
+        named: are_named(paths, named)?,
         recursive,
+        from,
     })
 }
 
@@ -314,6 +330,25 @@ fn choice_of<'a>(alloc: Global, words: &ArgMatches<'a>) -> Result<CardChoice, Ta
         };
     }
     Ok(CardChoice { hdus, names })
+}
+
+// What ends each name that is printed.
+fn name_end(words: &ArgMatches<'_>) -> char {
+    if words.get_flag("null") { '\0' } else { '\n' }
+}
+
+// A choice of each name alone.
+fn each_of(alloc: Global, choice: &CardChoice) -> Result<Vec<CardChoice>, AllocError> {
+    let mut choices = Vec::new(alloc);
+    for name in &choice.names {
+        let mut names = Vec::new(alloc);
+        names.push(*name)?;
+        choices.push(CardChoice {
+            hdus: choice.hdus.to_vec(alloc)?,
+            names,
+        })?;
+    }
+    Ok(choices)
 }
 
 // Which keywords the words of `keys` ask for.

@@ -31,6 +31,12 @@ pub enum Word {
     Recursive,
     /// The same of files that are edited in place.
     RecursiveInPlace,
+    /// A file with names of files to read.
+    NamesFrom,
+    /// Whether names of files lack a keyword that is asked for.
+    Lacking,
+    /// Whether a zero byte ends each name that is printed; and with which flag names are.
+    Null(&'static str),
     /// The HDU whose keywords are asked for.
     OneHdu,
     /// A keyword that is asked for.
@@ -62,12 +68,15 @@ impl Word {
             Word::RecursiveInPlace => recursive(alloc).requires_arg("in-place"),
             Word::Hdu => Ok(hdu(alloc)),
             Word::Name => Ok(name(alloc)),
+            Word::NamesFrom => Ok(names_from(alloc)),
+            Word::Lacking => lacking(alloc),
+            Word::Null(names) => null(alloc, names),
             Word::OneHdu => Ok(one_hdu(alloc)),
             Word::Keyword => Ok(keyword(alloc)),
             Word::In => Ok(path(alloc, "IN", "The file to read").required(true)),
             Word::Out => out(alloc),
             Word::More => more(alloc),
-            Word::Files => Ok(files(alloc)),
+            Word::Files => files(alloc),
         }
     }
 }
@@ -157,11 +166,31 @@ fn more<'a>(alloc: Global) -> Result<Arg<'a>, AllocError> {
         .requires_arg("in-place")
 }
 
-fn files<'a>(alloc: Global) -> Arg<'a> {
+fn files<'a>(alloc: Global) -> Result<Arg<'a>, AllocError> {
     path(alloc, "IN", "The files to read")
-        .required(true)
         .action(ArgAction::Append)
         .num_args(1..)
+        .required_unless_present("files0-from")
+}
+
+fn names_from<'a>(alloc: Global) -> Arg<'a> {
+    Arg::new(alloc, "files0-from")
+        .long("files0-from")
+        .value_name("FILE")
+        .action(ArgAction::Set)
+        .help(
+            "Read the files too whose names FILE has, a zero byte after each; - for standard input",
+        )
+}
+
+fn lacking<'a>(alloc: Global) -> Result<Arg<'a>, AllocError> {
+    let help = "Print the names alone of files that have no card of one of the NAMEs";
+    flag(alloc, "files-without", 'L', help).requires_arg("name")
+}
+
+fn null<'a>(alloc: Global, names: &'static str) -> Result<Arg<'a>, AllocError> {
+    let help = "End each name that is printed with a zero byte, for xargs -0";
+    flag(alloc, "null", '0', help).requires_arg(names)
 }
 
 fn path<'a>(alloc: Global, id: &'a str, help: &'a str) -> Arg<'a> {
