@@ -200,6 +200,20 @@ ROWS = [
     (["verify", "-p", "b.fits", "c.fits", "a.fits"], {"a.fits": EMPTY, "b.fits": DATED, "c.fits": CUT}, "", 2, "b.fits:E12 1 4 bad date: DATE    = '2024-02-30'\nb.fits:errors 1 warnings 0\na.fits:errors 0 warnings 0\n", "fitsed: c.fits: open refused O2 NoEnd hdu 2\n"),
     (["verify", "-p", "-l", "a.fits", "b.fits"], {"a.fits": EMPTY, "b.fits": DATED}, "", 1, "b.fits\n", ""),
     (["verify", "-p", "none.fits"], {}, "", 3, "", "fitsed: read failed\n"),
+    # names of files from a file or from standard input, after those that are typed
+    (["sum", "--files0-from", "names", "c.fits"], {"names": b"a.fits\0b.fits\0", "a.fits": EMPTY, "b.fits": STAMP, "c.fits": EMPTY}, "", 0, "c.fits:1 0 0 0\na.fits:1 0 0 0\nb.fits:1 0 1 1\n", ""),
+    (["sum", "--files0-from", "-"], {"a.fits": EMPTY}, "a.fits", 0, "a.fits:1 0 0 0\n", ""),
+    (["sum", "--files0-from", "names"], {"names": b""}, "", 0, "", ""),
+    (["sum", "--files0-from", "none", "a.fits"], {"a.fits": EMPTY}, "", 3, "a.fits:1 0 0 0\n", "fitsed: none: read failed\n"),
+    (["sum", "--files0-from", "names", "a.fits"], {"a.fits": EMPTY, "names": b"\xff\0"}, "", 3, "a.fits:1 0 0 0\n", "fitsed: names: a name is not UTF-8\n"),
+    # the names of files that lack a card of one of the names
+    (["cards", "-L", "-k", "OBJECT", "a.fits", "b.fits", "c.fits"], {"a.fits": TOLD, "b.fits": EMPTY, "c.fits": b"no"}, "", 2, "b.fits\n", "fitsed: c.fits: open refused O1 NotFits\n"),
+    (["cards", "-L0", "-k", "OBJECT", "-k", "BITPIX", "a.fits", "b.fits"], {"a.fits": TOLD, "b.fits": EMPTY}, "", 1, "b.fits\0", ""),
+    (["cards", "--files-without", "-k", "BITPIX", "-u", "2", "a.fits", "b.fits"], {"a.fits": IMAGES, "b.fits": EMPTY}, "", 1, "b.fits\n", ""),
+    (["cards", "-L", "-k", "COMMENT", "a.fits"], {"a.fits": ODD}, "", 0, "", ""),
+    (["cards", "-L", "a.fits"], {"a.fits": EMPTY}, "", 2, "", None),
+    (["verify", "-l0", "a.fits", "b.fits"], {"a.fits": DATED, "b.fits": EMPTY}, "", 1, "a.fits\0", ""),
+    (["verify", "-0", "a.fits"], {"a.fits": EMPTY}, "", 2, "", None),
     # the names of files with errors, and of those that don't open
     (["verify", "-l", "a.fits", "b.fits", "c.fits", "d.fits"], {"a.fits": EMPTY, "b.fits": DATED, "c.fits": b"no", "d.fits": LATER}, "", 2, "b.fits\nc.fits\n", "fitsed: c.fits: open refused O1 NotFits\n"),
     (["verify", "-l", "-w", "a.fits", "d.fits"], {"a.fits": EMPTY, "d.fits": LATER}, "", 1, "d.fits\n", ""),

@@ -16,13 +16,13 @@ _fitsed() {
             ;;
     esac
     case $command in
-        keys) flags='--hdu --name --recursive --verbose' ;;
+        keys) flags='--hdu --name --recursive --files0-from --verbose' ;;
         edit) flags='--all --check --warnings --sums --in-place --done --no-clobber --safe --backup --line --file --with-filename --recursive --verbose' ;;
-        ask) flags='--line --file --with-filename --recursive --verbose' ;;
-        cards) flags='--hdu --name --with-filename --recursive --verbose' ;;
-        list | stat) flags='--with-filename --recursive --verbose' ;;
-        sum) flags='--check --with-filename --recursive --verbose' ;;
-        verify) flags='--errors --quiet --print-cards --warnings --files-with-errors --with-filename --recursive --verbose' ;;
+        ask) flags='--line --file --with-filename --recursive --files0-from --verbose' ;;
+        cards) flags='--hdu --name --files-without --null --with-filename --recursive --files0-from --verbose' ;;
+        list | stat) flags='--with-filename --recursive --files0-from --verbose' ;;
+        sum) flags='--check --with-filename --recursive --files0-from --verbose' ;;
+        verify) flags='--errors --quiet --print-cards --warnings --files-with-errors --null --with-filename --recursive --files0-from --verbose' ;;
         *) return ;;
     esac
     case $word in
