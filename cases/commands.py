@@ -93,6 +93,9 @@ ODD_NAMES = ["with space.fits", "it's.fits", "a|b.fits", "a&b.fits", "a\nb.fits"
 ODD_NAME = "na\udcefve.fits"
 ODD_WORD = "fitsed: an argument is not UTF-8\n"
 
+# A file with an object.
+TOLD = with_cards("OBJECT  = 'M31     '")
+
 # A folder with files, in it and below it, and what is none of a night's files.
 NIGHT = {"night/b.fits.fz": EMPTY, "night/a.fits": EMPTY, "night/notes.txt": b"", "night/a/z.fts": STAMP, "night/a/y.fit": EMPTY, "b.txt": EMPTY}
 
@@ -398,7 +401,6 @@ ROWS += [
 
 # A script of `edit`, its files, the words, and what they have then; a file that isn't named stays.
 SET = "set 1 OBJECT 'M31'"
-TOLD = with_cards("OBJECT  = 'M31     '")
 EDITS = [
     (["edit", "-e", SET, "a.fits", "b.fits"], {"a.fits": EMPTY}, 0, {"b.fits": TOLD}),
     (["edit", "-e", SET, "a.fits", "a.fits"], {"a.fits": EMPTY}, 0, {"a.fits": TOLD}),
