@@ -10,6 +10,7 @@ use std::alloc::{AllocError, Global};
 
 /// The line above those of files: `file`, and the names that are asked for, each after a tab and
 /// without the spaces at its end.
+#[tactic(auto, using(crate::proofs::FieldLemmas::field_steps))]
 pub fn heading(alloc: Global, names: &[Name]) -> Result<Vec<u8>, AllocError>
     ensures { IfOk result (λ line. line.items ≡ heading_line names.now) }
 {
@@ -24,6 +25,7 @@ pub fn heading(alloc: Global, names: &[Name]) -> Result<Vec<u8>, AllocError>
 }
 
 /// Adds the fields of names in a header.
+#[tactic(auto, using(crate::proofs::FieldLemmas::field_steps))]
 pub(crate) fn push_fields(
     alloc: Global,
     line: &mut Vec<u8>,
@@ -41,6 +43,7 @@ pub(crate) fn push_fields(
 }
 
 /// Adds those of a header that isn't there: they are empty.
+#[tactic(auto, using(crate::proofs::FieldLemmas::field_steps))]
 pub(crate) fn push_empty(line: &mut Vec<u8>, names: &[Name]) -> Result<(), AllocError>
     ensures { OnOk result (line.new.items ≡ line.old.items ++ fields_of [] names.now) }
 {
@@ -51,6 +54,7 @@ pub(crate) fn push_empty(line: &mut Vec<u8>, names: &[Name]) -> Result<(), Alloc
 }
 
 // Adds the field of a name: what its lead says, with the CONTINUE cards of its string.
+#[tactic(auto, using(crate::proofs::FieldLemmas::field_steps))]
 fn push_field(
     alloc: Global,
     line: &mut Vec<u8>,

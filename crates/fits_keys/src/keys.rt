@@ -1,7 +1,7 @@
 //! The run of `keys`: a line of values of keywords of a file.
-ghost use Rattle.std.specs.Prelude.{◌≡◌, IfOk, IfErr};
+ghost use Rattle.std.specs.Prelude.{◌≡◌, ◌++◌, IfOk, IfErr, OnOk};
 ghost use Rattle.fits_passing.specs.Headers.{read_cards};
-ghost use Rattle.fits_keys.specs.Keys.{fields_line, KeysArePrinted, KeysEndAs, KeysStop};
+ghost use Rattle.fits_keys.specs.Keys.{cards_in, fields_line, fields_of, KeysArePrinted, KeysEndAs, KeysStop};
 
 use crate::fields::{push_empty, push_fields};
 use crate::key_choice::KeyChoice;
@@ -71,12 +71,32 @@ fn line_of(
         ≡ fields_line choice.now (read_cards headers.old.items)) }
 {
     let mut line = Vec::new(alloc);
-    if 1 <= choice.hdu && choice.hdu <= headers.len() as u64 {
-        let cards = &mut headers[choice.hdu as usize - 1];
-        push_fields(alloc, &mut line, cards, &choice.names)?;
-    } else {
-        push_empty(&mut line, &choice.names)?;
-    }
+    push_header(alloc, &mut line, choice, headers)?;
     line.push(b'\n')?;
     Ok(line)
+}
+
+// Adds the fields of the header that is asked for; they are empty where it isn't there.
+#[tactic(auto, using(crate::proofs::FieldLemmas::cards_past, crate::proofs::FieldLemmas::cards_there))]
+fn push_header(
+    alloc: Global,
+    line: &mut Vec<u8>,
+    choice: &KeyChoice,
+    headers: &mut Vec<CardList>,
+) -> Result<(), AllocError>
+    ensures { OnOk result (line.new.items ≡ line.old.items
+        ++ fields_of (cards_in (read_cards headers.old.items) choice.now.hdu) choice.now.names.items) }
+{
+    if choice.hdu == 0 {
+        return push_empty(line, &choice.names);
+    }
+    if choice.hdu > headers.len() as u64 {
+        return push_empty(line, &choice.names);
+    }
+    push_fields(
+        alloc,
+        line,
+        &mut headers[choice.hdu as usize - 1],
+        &choice.names,
+    )
 }
