@@ -166,6 +166,16 @@ def table(columns, noise):
     return header(texts) + filled(noise.words(columns * 50))
 
 
+# -- columns: tables whose columns have three cards each, verified with what their headers say of them
+
+COLUMNS = [33, 100, 333]
+
+
+def columns(noise):
+    for count in itertools.cycle(COLUMNS):
+        yield Round({IN: header([PRIMARY, *shape(8, [])]) + table(count, noise)}, [Command(["verify", "-t", IN])])
+
+
 def table_line(columns, cards, noise):
     """A line that asks or sets. A question for one card in five finds no keyword of that name."""
     column, card, number = noise.within(1, columns), noise.within(1, cards), noise.within(100, 999)
@@ -239,7 +249,7 @@ def script(lines):
     return "".join(f"{line}\n" for line in lines).encode()
 
 
-JOBS = {job.__name__: job for job in (folders, frames, kept, reshapes, tables, asked, painted, opened)}
+JOBS = {job.__name__: job for job in (folders, frames, kept, reshapes, tables, columns, asked, painted, opened)}
 
 
 def rounds(name, count, seed):

@@ -39,6 +39,7 @@ import saving
 import scripts
 import spared
 import sums
+import tables
 
 TABLES = [
     openings,
@@ -55,6 +56,7 @@ TABLES = [
     commands,
     reports,
     codes,
+    tables,
     mending,
     faults,
     one_file,

@@ -26,6 +26,13 @@ image() {
     cards "XTENSION= 'IMAGE   '" "$(number BITPIX "$bits")" "$(number NAXIS 2)" "$(number NAXIS1 "$columns")" \
         "$(number NAXIS2 "$rows")" "$(number PCOUNT 0)" "$(number GCOUNT 1)" "$@"
 }
+# table NAXIS1 NAXIS2 TFIELDS CARD..: the header of a binary table, with these further cards
+table() {
+    width=$1 rows=$2 columns=$3
+    shift 3
+    cards "XTENSION= 'BINTABLE'" "$(number BITPIX 8)" "$(number NAXIS 2)" "$(number NAXIS1 "$width")" \
+        "$(number NAXIS2 "$rows")" "$(number PCOUNT 0)" "$(number GCOUNT 1)" "$(number TFIELDS "$columns")" "$@"
+}
 # made NAME SCRIPT: the file of standard input after a script
 made() {
     cat >"$folder/$1.new"
@@ -85,3 +92,9 @@ cp "$folder/an_added_image.fits" "$folder/sums_kept_right.fits"
         "$science" "$(number GCOUNT 1)" "$(number PCOUNT 0)"
     pixels 12 "$six"
 } | made a_misplaced_pcount ''
+# four bytes of text were made five, and both columns have one name
+{
+    primary "OBJECT  = 'M31     '"
+    table 8 2 2 "TTYPE1  = 'ID      '" "TFORM1  = 'J       '" "TTYPE2  = 'Id      '" "TFORM2  = '5A      '"
+    pixels 16 '\000\000\000\001VEGA\000\000\000\002M31 '
+} | made a_broken_table ''

@@ -22,7 +22,7 @@ _fitsed() {
         cards) flags='--hdu --name --files-without --null --with-filename --recursive --files0-from --verbose' ;;
         list | stat) flags='--with-filename --recursive --files0-from --verbose' ;;
         sum) flags='--check --with-filename --recursive --files0-from --verbose' ;;
-        verify) flags='--errors --quiet --print-cards --warnings --files-with-errors --null --with-filename --recursive --files0-from --verbose' ;;
+        verify) flags='--errors --quiet --print-cards --tables --warnings --files-with-errors --null --with-filename --recursive --files0-from --verbose' ;;
         *) return ;;
     esac
     case $word in

@@ -7,6 +7,7 @@ pub mod ProblemCardLemmas
 pub mod ReportLemmas
 pub mod StatingLemmas
 pub mod SummingLemmas
+pub mod TableReportLemmas
 pub mod TellingLemmas
 pub mod UntouchedLemmas
 pub mod VerifyingLemmas

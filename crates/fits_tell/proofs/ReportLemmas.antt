@@ -11,15 +11,15 @@ use Rattle.fits_passing.specs.declared.problem.Problem.{Problem}
 use Rattle.fits_tell.specs.Report.{card_of, card_problem_line, closing_line, errors_in, listed_line, problem_line, problem_lines, report_text, warnings_in}
 use Rattle.fits_tell.specs.declared.level.Level.TheVariants.{All}
 
--- lines of the first problems, and of one more
-pub lines-more : (line : Problem → List ℕ) (report : List Problem) (i : ℕ) (d : Problem) → i < length report
+-- lines of the first, and of one more
+pub lines-more : {X : Type 0} (line : X → List ℕ) (report : List X) (i : ℕ) (d : X) → i < length report
     → flat_map line (take (i + 1) report) ≡ flat_map line (take i report) ++ line (get_or report i d)
 lines-more line report i d l =
     ap (flat_map line) (take_more report i d l) ∙ flat_map-append line (take i report) (get_or report i d ∷ [])
     ∙ ap (λ t. flat_map line (take i report) ++ t) (append-nil (line (get_or report i d)))
 
--- lines of the first problems, and of the others
-pub lines-split : (line : Problem → List ℕ) (report : List Problem) (i : ℕ) → flat_map line report ≡ flat_map line (take i report) ++ flat_map line (drop i report)
+-- lines of the first, and of the others
+pub lines-split : {X : Type 0} (line : X → List ℕ) (report : List X) (i : ℕ) → flat_map line report ≡ flat_map line (take i report) ++ flat_map line (drop i report)
 lines-split line report i =
     ap (flat_map line) (sym (take-append-drop i report)) ∙ flat_map-append line (take i report) (drop i report)
 

@@ -1,5 +1,5 @@
 -- A run that prints a text of a file, from the bytes that were read to its end.
-use Rattle.std.proofs.Common.{◌≡◌, ℕ, List, refl, sym, subst, inr}
+use Rattle.std.proofs.Common.{ℕ, List, refl, sym, subst, inr}
 use Rattle.fits_passing.specs.declared.outline.Outline.{Outline}
 use Rattle.fits_passing.specs.File.{FileParts}
 use Rattle.fits_passing.specs.Reading.{GaveWhole, IsOutlineOf}

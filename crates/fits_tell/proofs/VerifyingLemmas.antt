@@ -6,7 +6,7 @@ use Rattle.fits_stream.proofs.StreamLemmas.{Gains-none, Prints-more, PrintsFront
 use Rattle.fits_passing.specs.Reading.{GaveWhole}
 use Rattle.fits_passing.specs.declared.problem.Problem.{Problem}
 use Rattle.fits_tell.specs.Faults.{PrintFails}
-use Rattle.fits_tell.specs.Report.{closing_line, report_text}
+use Rattle.fits_tell.specs.Report.{report_text}
 use Rattle.fits_stream.specs.Stream.{SourceState, SinkState, Prints, StaysQuiet}
 use Rattle.fits_tell.specs.Telling.{IsToldReport, PrintingStops, TextStopsBy}
 use Rattle.fits_tell.specs.declared.fault.Fault.{Fault}
@@ -42,37 +42,37 @@ PrintingStops-more a b c xs ys ReadFailed front stops = absurd stops
 PrintingStops-more a b c xs ys (RereadFault why) front stops = absurd stops
 PrintingStops-more a b c xs ys WriteFailed front stops = PrintsFront-more a b c xs ys front stops
 
--- a report whose problems have these lines
-abbrev pub report_by : (Problem → List ℕ) → List Problem → List ℕ
-report_by line report = flat_map line report ++ closing_line report
+-- a report of which each has this line, and its closing line
+abbrev pub report_by : {X : Type 0} → (X → List ℕ) → List ℕ → List X → List ℕ
+report_by line closing report = flat_map line report ++ closing
 
--- the line of the next problem stops the report
-pub stops_at_line : (a b c : SinkState) (line : Problem → List ℕ) (report : List Problem) (i : ℕ) (d : Problem) (fault : Fault) → i < length report → Prints (flat_map line (take i report)) a b → PrintingStops (line (get_or report i d)) b c fault
-    → PrintingStops (report_by line report) a c fault
-stops_at_line a b c line report i d fault l front stops =
+-- the next line stops the report
+pub stops_at_line : {X : Type 0} (a b c : SinkState) (line : X → List ℕ) (closing : List ℕ) (report : List X) (i : ℕ) (d : X) (fault : Fault) → i < length report → Prints (flat_map line (take i report)) a b → PrintingStops (line (get_or report i d)) b c fault
+    → PrintingStops (report_by line closing report) a c fault
+stops_at_line a b c line closing report i d fault l front stops =
     let rest : List ℕ = flat_map line (drop (i + 1) report) in
     let next : List ℕ = line (get_or report i d) in
     let lines : flat_map line report ≡ (flat_map line (take i report) ++ next) ++ rest =
     lines-split line report (i + 1) ∙ ap (λ t. t ++ rest) (lines-more line report i d l) in
-    PrintingStops-longer a c (flat_map line report) (closing_line report) fault
+    PrintingStops-longer a c (flat_map line report) closing fault
     (rw lines (PrintingStops-longer a c (flat_map line (take i report) ++ next) rest fault (PrintingStops-more a b c (flat_map line (take i report)) next fault front stops)))
 
 -- the closing line stops the report
-pub stops_at_closing : (a b c : SinkState) (line : Problem → List ℕ) (report : List Problem) (i : ℕ) (fault : Fault) → length report ≤ i → Prints (flat_map line (take i report)) a b → PrintingStops (closing_line report) b c fault
-    → PrintingStops (report_by line report) a c fault
-stops_at_closing a b c line report i fault l front stops =
-    PrintingStops-more a b c (flat_map line report) (closing_line report) fault (rw (take_all i report l) at front) stops
+pub stops_at_closing : {X : Type 0} (a b c : SinkState) (line : X → List ℕ) (closing : List ℕ) (report : List X) (i : ℕ) (fault : Fault) → length report ≤ i → Prints (flat_map line (take i report)) a b → PrintingStops closing b c fault
+    → PrintingStops (report_by line closing report) a c fault
+stops_at_closing a b c line closing report i fault l front stops =
+    PrintingStops-more a b c (flat_map line report) closing fault (rw (take_all i report l) at front) stops
 
 -- memory is refused before the closing line
-pub stops_before_closing : (a b : SinkState) (line : Problem → List ℕ) (report : List Problem) (i : ℕ) → length report ≤ i → Prints (flat_map line (take i report)) a b → PrintingStops (report_by line report) a b Memory
-stops_before_closing a b line report i l front = stops_at_closing a b b line report i Memory l front (PrintingStops-none b (closing_line report))
+pub stops_before_closing : {X : Type 0} (a b : SinkState) (line : X → List ℕ) (closing : List ℕ) (report : List X) (i : ℕ) → length report ≤ i → Prints (flat_map line (take i report)) a b → PrintingStops (report_by line closing report) a b Memory
+stops_before_closing a b line closing report i l front = stops_at_closing a b b line closing report i Memory l front (PrintingStops-none b closing)
 
 -- all lines, and the closing one
-pub prints_report : (a b c : SinkState) (line : Problem → List ℕ) (report : List Problem) (i : ℕ) → length report ≤ i → Prints (flat_map line (take i report)) a b → Prints (closing_line report) b c → Prints (report_by line report) a c
-prints_report a b c line report i l front closing = Prints-more a b c (flat_map line report) (closing_line report) (rw (take_all i report l) at front) closing
+pub prints_report : {X : Type 0} (a b c : SinkState) (line : X → List ℕ) (closing : List ℕ) (report : List X) (i : ℕ) → length report ≤ i → Prints (flat_map line (take i report)) a b → Prints closing b c → Prints (report_by line closing report) a c
+prints_report a b c line closing report i l front last = Prints-more a b c (flat_map line report) closing (rw (take_all i report l) at front) last
 
 -- one more line
-pub prints_line : (a b c : SinkState) (line : Problem → List ℕ) (report : List Problem) (i : ℕ) (d : Problem) → i < length report → Prints (flat_map line (take i report)) a b → Prints (line (get_or report i d)) b c
+pub prints_line : {X : Type 0} (a b c : SinkState) (line : X → List ℕ) (report : List X) (i : ℕ) (d : X) → i < length report → Prints (flat_map line (take i report)) a b → Prints (line (get_or report i d)) b c
     → Prints (flat_map line (take (i + 1) report)) a c
 prints_line a b c line report i d l front next =
     rw (lines-more line report i d l) (Prints-more a b c (flat_map line (take i report)) (line (get_or report i d)) front next)

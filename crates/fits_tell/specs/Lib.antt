@@ -7,5 +7,6 @@ pub mod PixelLines
 pub mod Report
 pub mod Stating
 pub mod Summing
+pub mod TableReport
 pub mod Telling
 pub mod Untouched

@@ -1,5 +1,5 @@
 -- What `list` prints (own; FITS Standard 4.0, sections 3.1 and 4.4.1).
-use Rattle.std.specs.Prelude.{◌≡◌, ℕ, ◌+◌, List, ◌++◌, codes, ℤ, [], ◌∷◌, length, Result, Ok, Err}
+use Rattle.std.specs.Prelude.{ℕ, ◌+◌, List, ◌++◌, codes, ℤ, [], ◌∷◌, length, Result, Ok, Err}
 use Rattle.std.specs.Fmt.{decimal, signed_decimal}
 use Rattle.fits_passing.specs.declared.offsets.HduOffsets.{HduOffsets}
 use Rattle.fits_rules.specs.Shape.{shape_of}

@@ -14,6 +14,7 @@ use Rattle.fits_tell.specs.Faults.{status_of_fault}
 use Rattle.fits_tell.specs.Listing.{listing}
 use Rattle.fits_tell.specs.Report.{report_text, status_of_report}
 use Rattle.fits_tell.specs.Stating.{stating}
+use Rattle.fits_tell.specs.TableReport.{status_of_table_report, table_report_of, table_report_text}
 use Rattle.fits_tell.specs.Summing.{status_of_sums, summing, wrong_summing}
 use Rattle.fits_tell.specs.Untouched.{untouched}
 use Rattle.fits_tell.specs.declared.end.End.{End}
@@ -41,6 +42,7 @@ text_of telling.WrongSums file = wrong_summing file
 text_of telling.Untouched file = untouched file
 text_of telling.Statistics file = stating file
 text_of (telling.Report level strict cards) file = report_text level (told_headers cards file) (report_of file)
+text_of (telling.TableReport level strict cards) file = table_report_text level (told_headers cards file) (table_report_of file)
 
 -- what a source gave to its end is the file of these parts
 abbrev pub Opens : SourceState → SourceState → FileParts → Type 0
@@ -54,6 +56,7 @@ status_of_text telling.WrongSums file = status_of_sums file
 status_of_text telling.Untouched file = 0
 status_of_text telling.Statistics file = 0
 status_of_text (telling.Report level strict cards) file = status_of_report strict (report_of file)
+status_of_text (telling.TableReport level strict cards) file = status_of_table_report strict (table_report_of file)
 
 -- the text is printed and flushed
 pub record TextIsPrinted (kind : Telling) (file file_after : SourceState) (out out_after : SinkState) (status : ℕ) : Type 0 where

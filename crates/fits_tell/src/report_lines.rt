@@ -48,9 +48,13 @@ pub(crate) fn push_closing_line(text: &mut Vec<u8>, report: &[Problem]) -> Resul
     push_counts(text, errors, report.len() - errors)
 }
 
-// `errors N warnings M`
+/// `errors N warnings M`
 #[tactic(auto, unfolding(crate::specs::Report::counts_line))]
-fn push_counts(text: &mut Vec<u8>, errors: usize, warnings: usize) -> Result<(), AllocError>
+pub(crate) fn push_counts(
+    text: &mut Vec<u8>,
+    errors: usize,
+    warnings: usize,
+) -> Result<(), AllocError>
     ensures { OnOk result (text.new.items ≡ text.old.items ++ counts_line errors warnings) }
 {
     push_number(text, b"errors ", errors as u64)?;

@@ -11,6 +11,7 @@ use crate::stating::statistics;
 use crate::summing::{sum, wrong_sums};
 use crate::untouched::untouched_sums;
 use crate::verifying::verify;
+use crate::verifying_tables::verify_tables;
 use fits_stream::{Sink, Source};
 use std::alloc::Global;
 
@@ -33,6 +34,12 @@ pub enum Telling {
         /// Whether it is 1 where there is a warning, too.
         strict: bool,
         /// Whether each line has the card of its problem.
+        cards: bool,
+    },
+    /// The same with what is wrong with tables.
+    TableReport {
+        level: Level,
+        strict: bool,
         cards: bool,
     },
 }
@@ -96,5 +103,10 @@ fn print_text<F: Source, O: Sink>(
             strict,
             cards,
         } => verify(alloc, level, strict, cards, file, out),
+        Telling::TableReport {
+            level,
+            strict,
+            cards,
+        } => verify_tables(alloc, level, strict, cards, file, out),
     }
 }

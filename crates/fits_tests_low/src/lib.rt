@@ -18,6 +18,8 @@ mod slots;
 #[cfg(test)]
 mod sums;
 #[cfg(test)]
+mod tables;
+#[cfg(test)]
 mod values;
 #[cfg(test)]
 mod writing;

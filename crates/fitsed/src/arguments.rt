@@ -167,6 +167,11 @@ const VERIFIES: Form = Form {
             'p',
             "Print the card of its place after each problem",
         ),
+        Word::Flag(
+            "tables",
+            't',
+            "Judge what headers of tables say of columns, too",
+        ),
         Word::Flag("warnings", 'w', "Warnings count for the status too"),
         Word::Flag(
             "files-with-errors",

@@ -29,7 +29,7 @@ pub fn listed<R: Files<File = File> + Input + Eprint + AllocGlobal + Clone + Dro
         paths: Vec::new(rt.alloc()),
         status: 0,
     };
-    for path in files.paths {
+    for path in files.paths.unwrap_or(&[]) {
         if files.recursive && is_folder(rt, path) {
             add_below(rt, path, &mut all)?;
         } else {

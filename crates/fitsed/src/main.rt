@@ -106,7 +106,7 @@ fn status_of<R: Files<File = File> + Input + Print + Eprint + AllocGlobal + Clon
             terms,
         } => {
             let files = Inputs {
-                paths: &paths,
+                paths: Some(&paths),
                 named,
                 recursive,
                 from: None,

@@ -62,7 +62,8 @@ pub fn ask<R: rt::Files<File = File> + Input + Print + Eprint + AllocGlobal + Cl
     files: Inputs<'_, '_>,
     detail: Detail<'_>,
 ) -> u8 {
-    if let (true, false, [path]) = (script.is_empty(), files.recursive, files.paths) {
+    let alone = script.is_empty() && !files.recursive && files.from.is_none();
+    if let (true, Some([path])) = (alone, files.paths) {
         let subject = Subject {
             name: path,
             named: files.named,

@@ -93,7 +93,8 @@ impl SavingTerms<'_> {
 /// The files that a command reads.
 #[derive(Clone, Copy)]
 pub struct Inputs<'m, 'a> {
-    pub paths: &'m [&'a str],
+    /// Those that are typed, if some are.
+    pub paths: Option<&'m [&'a str]>,
     /// Whether each line of its output begins with the file's name.
     pub named: bool,
     /// Whether a folder stands for the files below it.
@@ -252,13 +253,13 @@ fn paths_of<'a>(
 }
 
 fn files_of<'m, 'a>(words: &'m ArgMatches<'a>) -> Result<Inputs<'m, 'a>, TaskFault<'a>> {
-    let paths = words.get_strs("IN").unwrap_or(&[]);
+    let paths = words.get_strs("IN");
     let recursive = words.get_flag("recursive");
     let from = words.get_str("files0-from");
     let named = words.get_flag("with-filename") || recursive || from.is_some();
     Ok(Inputs {
         paths,
-        named: are_named(paths, named)?,
+        named: are_named(paths.unwrap_or(&[]), named)?,
         recursive,
         from,
     })
@@ -291,10 +292,19 @@ fn telling_of<'a>(name: &str, words: &ArgMatches<'a>) -> Result<Telling, TaskFau
 
 // The report of `verify`, as a level has it.
 fn report_of(words: &ArgMatches<'_>, level: Level, cards: bool) -> Telling {
-    Telling::Report {
-        level,
-        strict: words.get_flag("warnings"),
-        cards,
+    let strict = words.get_flag("warnings");
+    if words.get_flag("tables") {
+        Telling::TableReport {
+            level,
+            strict,
+            cards,
+        }
+    } else {
+        Telling::Report {
+            level,
+            strict,
+            cards,
+        }
     }
 }
 

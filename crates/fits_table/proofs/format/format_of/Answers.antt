@@ -1,0 +1,14 @@
+use Rattle.std.proofs.Common.{◌∙◌, ◌==◌, sym, rules, tests}
+use Rattle.std.proofs.lemmas.Iterator.{YieldsList-from_slice}
+use Rattle.std.proofs.lemmas.Iterator.Consumers.{YieldsList-from_copied}
+use Rattle.std.proofs.lemmas.Iterator.Search.{find_from_yields_List}
+use Rattle.std.proofs.lemmas.Iterator.Adapters.{option_map_id}
+use Rattle.fits_table.specs.Format.{format_of, format_letter}
+use Rattle.fits_table.specs.declared.format.TheConstants.{FORMATS}
+use Rattle.fits_table.proofs.format.format_of.Goals as goal
+
+pub returns : goal.returns
+unfolding format_of
+returns c =
+    sym (option_map_id c.find.result)
+    ∙ find_from_yields_List (λ format. format_letter format == c.args.letter) _ _ _ c.find.ensures.ran (YieldsList-from_copied (YieldsList-from_slice FORMATS cc)) (λ x b q k. search (rules, tests))
