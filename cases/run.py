@@ -17,6 +17,7 @@ import card_edits
 import codes
 import commands
 import documents
+import extended
 import faults
 import hdu_edits
 import keeping
@@ -56,6 +57,7 @@ TABLES = [
     reports,
     codes,
     mending,
+    extended,
     faults,
     one_file,
     again,

@@ -16,8 +16,8 @@ _fitsed() {
             ;;
     esac
     case $command in
-        edit) flags='--all --check --warnings --sums --in-place --no-clobber --safe --backup --line --file --with-filename --verbose' ;;
-        ask) flags='--line --file --with-filename --verbose' ;;
+        edit) flags='--all --check --warnings --sums --in-place --done --no-clobber --safe --backup --line --file --extended --with-filename --verbose' ;;
+        ask) flags='--line --file --extended --with-filename --verbose' ;;
         cards) flags='--hdu --name --with-filename --verbose' ;;
         list | stat) flags='--with-filename --verbose' ;;
         sum) flags='--check --with-filename --verbose' ;;

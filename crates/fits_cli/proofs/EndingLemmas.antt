@@ -220,13 +220,13 @@ EndsAs-free old new saved holds (Ok (Unsound errors warnings)) any quiet ends = 
 EndsAs-free old new saved holds (Err fault) any quiet ends = (ends, refl)
 
 -- a run that wants no result saved saves nothing
-pub EndsAs-asked : (stored : Bool) (file file_after script script_after : SourceState) (out out_after saved holds anywhere : SinkState) (result : Result Edited Fault)
-    → EndsBy (run_by asking stored file script out) (run_by asking stored file_after script_after out_after) saved holds result
-    → EndsAs (run_by asking stored file script out) (run_by asking stored file_after script_after out_after) anywhere anywhere (end_of result)
-EndsAs-asked stored file file_after script script_after out out_after saved holds anywhere result ends =
-    EndsAs-free (run_by asking stored file script out) (run_by asking stored file_after script_after out_after) anywhere anywhere result refl refl (moved result ends)
+pub EndsAs-asked : (extended stored : Bool) (file file_after script script_after : SourceState) (out out_after saved holds anywhere : SinkState) (result : Result Edited Fault)
+    → EndsBy (run_by (asking extended) stored file script out) (run_by (asking extended) stored file_after script_after out_after) saved holds result
+    → EndsAs (run_by (asking extended) stored file script out) (run_by (asking extended) stored file_after script_after out_after) anywhere anywhere (end_of result)
+EndsAs-asked extended stored file file_after script script_after out out_after saved holds anywhere result ends =
+    EndsAs-free (run_by (asking extended) stored file script out) (run_by (asking extended) stored file_after script_after out_after) anywhere anywhere result refl refl (moved result ends)
   where
-    moved : (r : Result Edited Fault) → EndsBy (run_by asking stored file script out) (run_by asking stored file_after script_after out_after) saved holds r → EndsBy (run_by asking stored file script out) (run_by asking stored file_after script_after out_after) anywhere anywhere r
+    moved : (r : Result Edited Fault) → EndsBy (run_by (asking extended) stored file script out) (run_by (asking extended) stored file_after script_after out_after) saved holds r → EndsBy (run_by (asking extended) stored file script out) (run_by (asking extended) stored file_after script_after out_after) anywhere anywhere r
     moved (Ok (Done status)) e = record { end = e.end; status_is = e.status_is; result = refl }
     moved (Ok (KeptBack undone)) e = (e.0, refl)
     moved (Ok (Unsound errors warnings)) e = (e.0, refl)

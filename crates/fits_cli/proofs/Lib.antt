@@ -17,4 +17,3 @@ pub mod ScriptLemmas
 pub mod SizeLemmas
 pub mod StoredLemmas
 pub mod UnderWayLemmas
-pub mod ValueLineLemmas

@@ -62,6 +62,7 @@ said_of_refused line number (reply.Done text) refused = cc
 said_of_refused line number (reply.Refused why clues) refused = refl
 said_of_refused line number reply.TooLong refused = refl
 said_of_refused line number (reply.NoCommand misfit) refused = refl
+said_of_refused line number (reply.Unmet why) refused = refl
 
 -- of one that was nothing is
 pub said_of_done : (line : List ℕ) (number : ℕ) (reply : Reply) → counts_as_refused reply ≡ false → [] ≡ remark_line number (remark_by line reply)
@@ -70,6 +71,7 @@ said_of_done line number (reply.Done text) done = refl
 said_of_done line number (reply.Refused why clues) done = cc
 said_of_done line number reply.TooLong done = cc
 said_of_done line number (reply.NoCommand misfit) done = cc
+said_of_done line number (reply.Unmet why) done = cc
 
 -- the remark that a reply has is the one on its line
 remark_lines : (standing : Standing) (line : List ℕ) (number : ℕ) (reply : Reply) → number ≡ standing.line

@@ -15,10 +15,13 @@ use Rattle.fits_hdu.specs.State.{HduState}
 use Rattle.fits_passing.specs.declared.offsets.HduOffsets.{HduOffsets}
 use Rattle.fits_making.specs.declared.refusal.Refusal.{Refusal}
 use Rattle.fits_making.specs.declared.refusal.Refusal.TheVariants.{NoKey, Memory}
-use Rattle.fits_script.specs.Line.{ReadingNeedsMemory}
+use Rattle.fits_script.specs.Line.{reading_of, ReadingNeedsMemory}
 use Rattle.fits_tell.specs.PixelLines.{statistics_line, sums_line, values_line}
 use Rattle.fits_tell.specs.Report.{report_text}
 use Rattle.fits_cli.specs.ValueLine.{value_line}
+use Rattle.fits_extended.specs.Stands.{stands_for, unmet_text}
+use Rattle.fits_extended.specs.Words.{may_stand}
+use Rattle.fits_extended.specs.declared.unmet.Unmet.{Unmet}
 use Rattle.fits_script.specs.declared.line_reading.LineReading.{LineReading}
 use Rattle.fits_script.specs.declared.line_reading.LineReading.TheVariants.{TooLong, NoCommand, Said}
 use Rattle.fits_script.specs.declared.command.Command.{Command}
@@ -111,13 +114,14 @@ CommandFails it command why = outcome_of it command ≡ Err why
 abbrev pub complaint : ℕ → List ℕ → List ℕ
 complaint number why = codes "line " ++ (decimal number ++ (codes ": " ++ (why ++ codes "\n")))
 
--- the file before a line, with its marks, the line's number from 1, how many lines before it were refused or bad, and whether one of
--- them was an edit that was accepted
+-- the file before a line, with its marks, the line's number from 1, how many lines before it were refused or bad, whether one of
+-- them was an edit that was accepted, and whether extended lines are taken
 pub record Standing : Type 0 where
   pub marked : Marked
   pub line : ℕ
   pub refused : ℕ
   pub edited : Bool
+  pub extended : Bool
 
 -- a file with its marks before the first line, on these terms: each HDU is kept whose sums vouch for it, or none is
 abbrev pub marked_first : Terms → FileParts → Marked
@@ -125,7 +129,7 @@ marked_first terms file = record { file = file; kept = if terms.sums then (vouch
 
 -- before the first line
 abbrev pub at_first_line : Terms → FileParts → Standing
-at_first_line terms file = record { marked = marked_first terms file; line = 1; refused = 0; edited = false }
+at_first_line terms file = record { marked = marked_first terms file; line = 1; refused = 0; edited = false; extended = terms.extended }
 
 -- the command is an edit
 abbrev pub is_edit : Command → Bool
@@ -150,13 +154,13 @@ abbrev pub after_outcome : Standing → Command → Result Done Refusal → Stan
 after_outcome standing command (Ok done) = after_done standing command done.left
 after_outcome standing command (Err why) = after_refused standing
 
--- what a line prints
+-- what a plain line prints
 unfoldable pub line_answer : Standing → LineReading → List ℕ
 line_answer standing TooLong = complaint standing.line (codes "too long")
 line_answer standing (NoCommand misfit) = complaint standing.line (codes "not a command")
 line_answer standing (Said command) = outcome_text standing.line (outcome_of standing.marked command)
 
--- what a line leaves
+-- what a plain line leaves
 unfoldable pub line_left : Standing → LineReading → Standing
 line_left standing TooLong = after_refused standing
 line_left standing (NoCommand misfit) = after_refused standing
@@ -176,13 +180,54 @@ IsReady (Statistics hdu) hdus = IsSoOf HasStats hdu hdus
 IsReady (Rectangle hdu lo hi) hdus = IsSoOf HasPixels hdu hdus
 IsReady command hdus = Unit {0}
 
--- a line may want them
+-- a plain line may want them
 unfoldable pub WantsPixels : Marked → LineReading → Type 0
 WantsPixels it (Said command) = CommandWantsPixels it.file command
 WantsPixels it reading = ⊥
 
--- memory may run out at a line: in reading it, or on the way to its outcome
+-- memory may run out at a plain line: in reading it, or on the way to its outcome
 unfoldable pub LineNeedsMemory : Marked → LineReading → Type 0
 LineNeedsMemory it TooLong = ⊥
 LineNeedsMemory it (NoCommand misfit) = ⊥
 LineNeedsMemory it (Said command) = ReadingNeedsMemory (Said command) ⊎ OutcomeNeedsMemory it command
+
+-- the plain line that a line stands for as things stand, or why it stands for none: where extended lines aren't taken it is plain
+abbrev pub line_stands : Standing → List ℕ → Result (List ℕ) Unmet
+line_stands standing line = if standing.extended then stands_for standing.marked.file line else Ok line
+
+-- what is printed of what a line stands for
+abbrev pub answer_of : Standing → Result (List ℕ) Unmet → List ℕ
+answer_of standing (Ok plain) = line_answer standing (reading_of plain)
+answer_of standing (Err why) = complaint standing.line (unmet_text why)
+
+-- what that leaves
+abbrev pub left_of : Standing → Result (List ℕ) Unmet → Standing
+left_of standing (Ok plain) = line_left standing (reading_of plain)
+left_of standing (Err why) = after_refused standing
+
+-- what a line prints, whatever it stands for
+unfoldable pub answer_to : Standing → List ℕ → List ℕ
+answer_to standing line = answer_of standing (line_stands standing line)
+
+-- what it leaves
+unfoldable pub left_after : Standing → List ℕ → Standing
+left_after standing line = left_of standing (line_stands standing line)
+
+-- what a line stands for may want pixels
+abbrev pub StandsForPixels : Marked → Result (List ℕ) Unmet → Type 0
+StandsForPixels it (Ok plain) = WantsPixels it (reading_of plain)
+StandsForPixels it (Err why) = ⊥
+
+-- so may a line
+unfoldable pub WantsPixelsFor : Standing → List ℕ → Type 0
+WantsPixelsFor standing line = StandsForPixels standing.marked (line_stands standing line)
+
+-- memory may run out at what a line stands for
+abbrev pub StandsForMemory : Marked → Result (List ℕ) Unmet → Type 0
+StandsForMemory it (Ok plain) = LineNeedsMemory it (reading_of plain)
+StandsForMemory it (Err why) = ⊥
+
+-- it may at a line: as is found what an extended one stands for, or at that
+unfoldable pub NeedsMemoryFor : Standing → List ℕ → Type 0
+NeedsMemoryFor standing line =
+    ((standing.extended ≡ true) × (may_stand line ≡ true)) ⊎ StandsForMemory standing.marked (line_stands standing line)

@@ -12,11 +12,10 @@ use Rattle.fits_passing.specs.Opening.{HasOpenFault}
 use Rattle.fits_passing.specs.Report.{IsReportOf}
 use Rattle.fits_passing.specs.declared.open_fault.OpenFault.{OpenFault}
 use Rattle.fits_passing.specs.declared.problem.Problem.{Problem}
-use Rattle.fits_cli.specs.Answer.{at_first_line, LineNeedsMemory, WantsPixels}
+use Rattle.fits_cli.specs.Answer.{at_first_line, NeedsMemoryFor, Standing, WantsPixelsFor}
 use Rattle.fits_tell.specs.Faults.{status_of_fault}
 use Rattle.fits_cli.specs.Faults.{IsUnchanged}
 use Rattle.fits_cli.specs.declared.limits.TheConstants.{SCRIPT_LIMIT}
-use Rattle.fits_script.specs.Line.{reading_of}
 use Rattle.fits_cli.specs.Output.{answers, standing_after, Output, IsOutputOf}
 use Rattle.fits_cli.specs.Remark.{remarks, Remarks}
 use Rattle.fits_cli.specs.Script.{IsCutInLines, script_lines}
@@ -33,8 +32,6 @@ use Rattle.fits_tell.specs.declared.reread.Reread.TheVariants as again
 use Rattle.fits_cli.specs.declared.saves.Saves.{Saves}
 use Rattle.fits_cli.specs.declared.saves.Saves.TheVariants.{Made, Nothing}
 use Rattle.fits_cli.specs.declared.terms.Terms.{Terms}
-use Rattle.fits_session.specs.Marked.{Marked}
-use Rattle.fits_script.specs.declared.line_reading.LineReading.{LineReading}
 
 -- the terms of a run and the streams that come before what it saves, and whether the file is read again where its data are wanted
 pub record RunState : Type 0 where
@@ -165,21 +162,21 @@ pub record IsTooLong (old new : RunState) : Type 0 where
   pub printed : new.printed.unflushed ≡ 0
 
 -- a run stops at a line that needs this: the answers to the lines before it are flushed
-pub record StopsAtLine (Needs : Marked → LineReading → Type 0) (old new : RunState) : Type 0 where
+pub record StopsAtLine (Needs : Standing → List ℕ → Type 0) (old new : RunState) : Type 0 where
   pub parts : FileParts
   pub lines : List (List ℕ)
   pub line : List ℕ
   pub others : List (List ℕ)
   pub opened : GaveFile old.file new.file parts
   pub reached : HasLines old.script new.script (lines ++ line ∷ others)
-  pub needs : Needs (standing_after (at_first_line old.terms parts) lines).marked (reading_of line)
+  pub needs : Needs (standing_after (at_first_line old.terms parts) lines) line
   pub printed : Prints (answers (at_first_line old.terms parts) lines) old.printed new.printed
   pub flushed : new.printed.unflushed ≡ 0
 
 -- memory was refused: on the way to the first line, so that nothing is printed, or at a line
 pub record IsOutOfMemory (old new : RunState) : Type 0 where
   pub read : ReadsWell old new
-  pub printed : (new.script ≡ old.script × Prints [] old.printed new.printed) ⊎ StopsAtLine LineNeedsMemory old new
+  pub printed : (new.script ≡ old.script × Prints [] old.printed new.printed) ⊎ StopsAtLine NeedsMemoryFor old new
 
 -- memory was refused after the script, for the report of its result or the lines of new problems
 pub record LacksReport (old new : RunState) : Type 0 where
@@ -231,7 +228,7 @@ pub record NewErrorsFail (old new : RunState) : Type 0 where
 -- data that a line wants aren't had again
 pub record LacksPixels (old new : RunState) : Type 0 where
   pub read : ReadsWell old new
-  pub at : StopsAtLine WantsPixels old new
+  pub at : StopsAtLine WantsPixelsFor old new
 
 -- what stands before a fault that ends a run ahead of saving
 abbrev pub StopsBy : RunState → RunState → Fault → Type 0

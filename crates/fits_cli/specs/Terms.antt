@@ -22,8 +22,8 @@ check_of (Made whole check) = check
 
 -- plain terms: no sums are kept right, and a file is saved whatever its script did
 abbrev pub plain : Terms
-plain = record { sums = false; spare = false; saves = Made false Quiet }
+plain = record { sums = false; extended = false; spare = false; saves = Made false Quiet }
 
--- the terms of a run that saves nothing
-abbrev pub asking : Terms
-asking = record { sums = false; spare = false; saves = Nothing }
+-- the terms of a run that saves nothing, with extended lines or without
+abbrev pub asking : Bool → Terms
+asking extended = record { sums = false; extended = extended; spare = false; saves = Nothing }

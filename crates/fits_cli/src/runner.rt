@@ -12,6 +12,7 @@ use crate::reasons::clues_of;
 use crate::reply::{Reply, counts_as_refused, settled};
 use crate::saves::Saves;
 use crate::terms::Terms;
+use fits_extended::{Stands, Unmet, plain_line};
 use fits_script::{LineReading, read_line};
 use fits_session::{Holder, Problem, Session};
 use fits_stream::{ReadLog, Sink};
@@ -31,6 +32,8 @@ pub(crate) struct Runner<H: Holder + Drop> {
     refused: u64,
     /// Whether a line so far was an edit that was accepted.
     edited: bool,
+    /// Whether extended lines are taken.
+    extended: bool,
 }
 
 impl<H: Holder + Drop> Model for Runner<H> {
@@ -45,6 +48,7 @@ impl<H: Holder + Drop> Model for Runner<H> {
         line = runner.line;
         refused = runner.refused;
         edited = runner.edited;
+        extended = runner.extended;
       };
       log = runner.log;
     } };
@@ -59,7 +63,9 @@ impl<H: Holder + Drop> Runner<H> {
     ghost use Rattle.fits_stream.specs.Stream.{Prints};
     ghost use Rattle.fits_unit.specs.Again.{Follows, PrintsLike};
     ghost use Rattle.fits_session.specs.Away.{AllLie};
-    ghost use Rattle.fits_cli.specs.Answer.{at_first_line, line_answer, line_left, LineNeedsMemory};
+    ghost use Rattle.fits_cli.specs.Answer.{after_refused, at_first_line, line_answer, line_left, line_stands, LineNeedsMemory};
+    ghost use Rattle.fits_extended.specs.Stands.{stood};
+    ghost use Rattle.fits_extended.specs.Words.{may_stand};
     ghost use Rattle.fits_script.specs.Line.{reading_of};
     ghost use Rattle.fits_cli.specs.Output.{saved_bytes, status_of};
     ghost use Rattle.fits_cli.specs.Remark.{remark_by, remark_on};
@@ -90,6 +96,7 @@ impl<H: Holder + Drop> Runner<H> {
             line: 1,
             refused: 0,
             edited: false,
+            extended: terms.extended,
         }
     }
 
@@ -129,7 +136,31 @@ impl<H: Holder + Drop> Runner<H> {
         saves.whole() && self.refused > 0
     }
 
-    /// Does what a line says, and goes on to the next one. Where clues are wanted the reply has them.
+    /// What a line stands for as things stand.
+    pub(crate) fn stands_for(&mut self, alloc: Global, line: &[u8]) -> Result<Stands, AllocError>
+        ensures ok { IfOk result (λ it. stood line.now it ≡ line_stands self.old.standing line.now) }
+        ensures err { OnErr result (self.old.standing.extended ≡ true) }
+        ensures may { OnErr result (may_stand line.now ≡ true) }
+        ensures same { self.new ≡ self.old }
+    {
+        if !self.extended {
+            return Ok(Stands::Itself);
+        }
+        plain_line(alloc, &mut self.session, line)
+    }
+
+    /// Goes on to the next line, after one that stands for no plain line.
+    pub(crate) fn refuse<'a>(&mut self, why: Unmet) -> Reply<'a>
+        requires { self.old.standing.line + 1 < 2 ^ 64 }
+        ensures reply { result ≡ Reply.Unmet why }
+        ensures left { self.new.standing ≡ after_refused self.old.standing }
+        ensures log { self.new.log ≡ self.old.log }
+    {
+        self.pass(Reply::Unmet(why), false)
+    }
+
+    /// Does what a plain line says, and goes on to the next one. Where clues are wanted the reply has
+    /// them.
     #[tactic(auto, unfolding(crate::specs::Answer::line_answer, crate::specs::Answer::line_left, crate::specs::Answer::LineNeedsMemory, crate::specs::Remark::remark_by, crate::specs::Remark::remark_on))]
     pub(crate) fn reply<'a>(
         &mut self,
@@ -178,6 +209,7 @@ impl<H: Holder + Drop> Runner<H> {
           line = self.old.standing.line + 1;
           refused = self.old.standing.refused + (if counts_as_refused reply.entry then 1 else 0);
           edited = if counts_as_refused reply.entry then self.old.standing.edited else edits || self.old.standing.edited;
+          extended = self.old.standing.extended;
         } }
         ensures log { self.new.log ≡ self.old.log }
     {

@@ -1,5 +1,5 @@
 //! A script, answered line by line as it comes.
-ghost use Rattle.std.specs.Prelude.{◌≡◌, ◌<◌, ◌≤◌, ◌+◌, ◌^◌, ◌++◌, true, [], length, take, IfErr, IfOk, OnErr, OnOk};
+ghost use Rattle.std.specs.Prelude.{◌≡◌, ◌<◌, ◌≤◌, ◌+◌, ◌^◌, ◌++◌, true, [], length, take, Err, IfErr, IfOk, OnErr, OnOk};
 ghost use Rattle.std.specs.Prelude.{vec_capacity, vec_len};
 ghost use Rattle.std.specs.Option.{option_map};
 ghost use Rattle.std.specs.Io.{ReadsAtMost};
@@ -10,13 +10,16 @@ ghost use Rattle.fits_tell.specs.Faults.{PrintFails};
 ghost use Rattle.fits_cli.specs.Frame.{LinesLeave, PrintsSome, ScriptAnswers, ScriptLeaves};
 ghost use Rattle.fits_cli.specs.Reply.{reply_text};
 ghost use Rattle.fits_unit.specs.Again.{Follows};
-ghost use Rattle.fits_cli.specs.Running.{heard, kept_of, AnswersLine, AnswersScript, Continues, Steady};
-ghost use Rattle.fits_cli.specs.Running.{EndsScript, EndStops, LineStops, PieceStops, ScriptStops};
+ghost use Rattle.fits_cli.specs.Answer.{answer_of, left_of};
+ghost use Rattle.fits_cli.specs.Remark.{remark_of};
+ghost use Rattle.fits_cli.specs.Running.{heard, kept_of, AnswersAs, AnswersLine, AnswersPlain, AnswersScript, Continues, Steady};
+ghost use Rattle.fits_cli.specs.Running.{EndsScript, EndStops, LineStops, PieceStops, PlainStops, ScriptStops, StopsAs};
 
 use crate::limits::SCRIPT_LIMIT;
 use crate::remarking::say;
 use crate::reply::{Reply, counts_as_refused, print_reply};
 use crate::runner::Runner;
+use fits_extended::{Stands, Unmet};
 use fits_script::{LINE_LIMIT, split_far};
 use fits_session::Holder;
 use fits_stream::{PIECE_LEN, Sink, Source, buffer_of};
@@ -27,7 +30,7 @@ use std::io;
 /// How many bytes of a line are kept until it ends. More aren't needed: it is too long.
 const LINE_ROOM: usize = LINE_LIMIT + 1;
 
-// Answers one line.
+// Answers one line, whatever it stands for.
 fn answer_line<H: Holder + Drop, O: Sink, E: Sink>(
     alloc: Global,
     runner: &mut Runner<H>,
@@ -40,6 +43,65 @@ fn answer_line<H: Holder + Drop, O: Sink, E: Sink>(
         (heard (O.state out.old) (option_map E.state told.old))
         (heard (O.state out.new) (option_map E.state told.new))) }
     ensures err { Steady H.whole runner.new.log → IfErr result (LineStops line.now runner.old.standing
+        (heard (O.state out.old) (option_map E.state told.old))
+        (heard (O.state out.new) (option_map E.state told.new))) }
+    ensures quiet { OnOk result (runner.new.log.failures ≡ runner.old.log.failures) }
+    ensures counted { IfErr result (FaultCounts runner.old.log.failures runner.new.log.failures) }
+    ensures said { OnOk result (PrintsSome (O.state out.old) (O.state out.new)) }
+    ensures leaves { IfErr result (LinesLeave (O.state out.old) (O.state out.new)) }
+    ensures once { H.whole ≡ true → IfErr result IsOnce }
+    ensures follows { Follows runner.old.log runner.new.log }
+    ensures line { OnOk result (runner.new.standing.line ≡ runner.old.standing.line + 1) }
+{
+    match runner.stands_for(alloc, line)? {
+        Stands::Itself => answer_plain(alloc, runner, line, out, told),
+        Stands::Line(plain) => answer_plain(alloc, runner, &plain, out, told),
+        Stands::Unmet(why) => answer_unmet(runner, why, line, out, told),
+    }
+}
+
+// Answers a line that stands for no plain line.
+fn answer_unmet<H: Holder + Drop, O: Sink, E: Sink>(
+    runner: &mut Runner<H>,
+    why: Unmet,
+    line: &[u8],
+    out: &mut O,
+    told: &mut Option<E>,
+) -> Result<(), Fault>
+    requires { runner.old.standing.line + 1 < 2 ^ 64 }
+    ensures ok { OnOk result (AnswersAs (answer_of runner.old.standing (Err why))
+        (remark_of runner.old.standing (Err why)) (left_of runner.old.standing (Err why)) runner.new.standing
+        (heard (O.state out.old) (option_map E.state told.old))
+        (heard (O.state out.new) (option_map E.state told.new))) }
+    ensures err { IfErr result (StopsAs (answer_of runner.old.standing (Err why)) ⊥ ⊥
+        (heard (O.state out.old) (option_map E.state told.old))
+        (heard (O.state out.new) (option_map E.state told.new))) }
+    ensures said { OnOk result (PrintsSome (O.state out.old) (O.state out.new)) }
+    ensures leaves { IfErr result (LinesLeave (O.state out.old) (O.state out.new)) }
+    ensures once { IfErr result IsOnce }
+    ensures counted { IfErr result (FaultCounts runner.old.log.failures runner.new.log.failures) }
+    ensures log { runner.new.log ≡ runner.old.log }
+{
+    let number = runner.line();
+    let reply = runner.refuse(why);
+    print_answer(out, number, &reply, told.is_some())?;
+    say(told, number, line, &reply);
+    Ok(())
+}
+
+// Answers one plain line.
+fn answer_plain<H: Holder + Drop, O: Sink, E: Sink>(
+    alloc: Global,
+    runner: &mut Runner<H>,
+    line: &[u8],
+    out: &mut O,
+    told: &mut Option<E>,
+) -> Result<(), Fault>
+    requires { runner.old.standing.line + 1 < 2 ^ 64 }
+    ensures ok { Steady H.whole runner.new.log → OnOk result (AnswersPlain line.now runner.old.standing runner.new.standing
+        (heard (O.state out.old) (option_map E.state told.old))
+        (heard (O.state out.new) (option_map E.state told.new))) }
+    ensures err { Steady H.whole runner.new.log → IfErr result (PlainStops line.now runner.old.standing
         (heard (O.state out.old) (option_map E.state told.old))
         (heard (O.state out.new) (option_map E.state told.new))) }
     ensures quiet { OnOk result (runner.new.log.failures ≡ runner.old.log.failures) }

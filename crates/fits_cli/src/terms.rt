@@ -1,3 +1,7 @@
+//! The terms of a run.
+ghost use Rattle.std.specs.Prelude.{◌≡◌};
+ghost use Rattle.fits_cli.specs.Terms.{asking};
+
 use crate::saves::Saves;
 use fits_tell::Level;
 
@@ -6,6 +10,8 @@ use fits_tell::Level;
 pub struct Terms {
     /// HDUs whose sums are right as the file is opened are kept right.
     pub sums: bool,
+    /// Extended lines are taken, each for the plain line that it stands for.
+    pub extended: bool,
     /// Nothing is saved where no edit was accepted.
     pub spare: bool,
     pub saves: Saves,
@@ -14,6 +20,7 @@ pub struct Terms {
 /// The terms of a run that has none of these, and saves what its script made.
 pub(crate) const PLAIN: Terms = Terms {
     sums: false,
+    extended: false,
     spare: false,
     saves: Saves::Made {
         whole: false,
@@ -21,9 +28,14 @@ pub(crate) const PLAIN: Terms = Terms {
     },
 };
 
-/// The terms of a run that saves nothing.
-pub(crate) const ASKING: Terms = Terms {
-    sums: false,
-    spare: false,
-    saves: Saves::Nothing,
-};
+/// The terms of a run that saves nothing, with extended lines or without.
+pub(crate) fn asking(extended: bool) -> Terms
+    ensures { result ≡ asking extended }
+{
+    Terms {
+        sums: false,
+        extended,
+        spare: false,
+        saves: Saves::Nothing,
+    }
+}

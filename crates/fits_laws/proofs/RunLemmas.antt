@@ -12,7 +12,8 @@ use Rattle.fits_script.specs.declared.command.Command.{Command}
 use Rattle.fits_script.specs.declared.command.Command.TheVariants.{Nothing, Edit, Offsets, Get, Positions, Report, Statistics, Rectangle, Sums, Kept}
 use Rattle.fits_script.specs.declared.line_reading.LineReading.{LineReading}
 use Rattle.fits_script.specs.declared.line_reading.LineReading.TheVariants.{TooLong, NoCommand, Said}
-use Rattle.fits_cli.specs.Answer.{Standing, after_outcome, asked, kept_line, line_left, outcome_of, some_places, sums_asked, unless}
+use Rattle.fits_extended.specs.declared.unmet.Unmet.{Unmet}
+use Rattle.fits_cli.specs.Answer.{Standing, after_outcome, asked, kept_line, left_after, left_of, line_left, line_stands, outcome_of, some_places, sums_asked, unless}
 use Rattle.fits_cli.specs.Output.{standing_after}
 use Rattle.fits_cli.proofs.ResultLemmas.{said_line}
 use Rattle.fits_cli.proofs.SizeLemmas.{IsSized}
@@ -21,7 +22,7 @@ use Rattle.fits_making.specs.Keeping.{are_right, vouch}
 use Rattle.fits_session.specs.Marked.{unmarked, vouched}
 use Rattle.fits_cli.specs.Answer.{at_first_line}
 use Rattle.fits_cli.specs.declared.terms.Terms.{Terms}
-use Rattle.fits_laws.specs.Runs.{IsEdited, LeavesSums, edit_unless, edits_of, edits_said}
+use Rattle.fits_laws.specs.Runs.{IsEdited, LeavesSums, edit_unless, edits_of, edits_said, edits_stood}
 use Rattle.fits_laws.specs.Sums.{AreAccepted, AreKeptSo, AreKnown, known_after_each, marked_after_each, marks_after_each, right_marks, unvouched_cards}
 use Rattle.fits_laws.proofs.SumLemmas.{is_vouched, other_sums_stay, right_sums_stay}
 
@@ -82,15 +83,20 @@ one_left standing line TooLong is = none_left _ _ refl
 one_left standing line (NoCommand misfit) is = none_left _ _ refl
 one_left standing line (Said command) is = command_left standing command (said_line line command is)
 
+-- whatever a line stands for
+stood_left : (standing : Standing) (stands : Result (List ℕ) Unmet) → Leaves standing.marked (left_of standing stands).marked (edits_stood standing.marked stands)
+stood_left standing (Ok plain) = one_left standing plain (reading_of plain) refl
+stood_left standing (Err why) = none_left _ _ refl
+
 -- all lines
 pub lines_edited : (standing : Standing) (lines : List (List ℕ)) → IsEdited standing lines
-unfolding standing_after
+unfolding standing_after left_after
 lines_edited standing [] = record { left = refl; accepted = tt }
 lines_edited standing (line ∷ lines) =
-    let next : Standing = line_left standing (reading_of line) in
-    let first = one_left standing line (reading_of line) refl in
+    let next : Standing = left_after standing line in
+    let first = stood_left standing (line_stands standing line) in
     let others = lines_edited next lines in
-    let said = edits_said standing.marked (reading_of line) in
+    let said = edits_stood standing.marked (line_stands standing line) in
     record {
       left = others.left ∙ ap (λ it. marked_after_each it (edits_of next lines)) first.is ∙ sym (after_both standing.marked said (edits_of next lines));
       accepted = accepted_both standing.marked said (edits_of next lines) first.accepted (subst (λ it. AreAccepted it (edits_of next lines)) first.is others.accepted);

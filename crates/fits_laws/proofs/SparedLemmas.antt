@@ -11,7 +11,8 @@ use Rattle.fits_script.specs.declared.command.Command.{Command}
 use Rattle.fits_script.specs.declared.command.Command.TheVariants.{Nothing, Edit, Offsets, Get, Positions, Report, Statistics, Rectangle, Sums, Kept}
 use Rattle.fits_script.specs.declared.line_reading.LineReading.{LineReading}
 use Rattle.fits_script.specs.declared.line_reading.LineReading.TheVariants.{TooLong, NoCommand, Said}
-use Rattle.fits_cli.specs.Answer.{Standing, after_outcome, asked, is_edit, kept_line, line_left, outcome_of, some_places, sums_asked, unless}
+use Rattle.fits_extended.specs.declared.unmet.Unmet.{Unmet}
+use Rattle.fits_cli.specs.Answer.{Standing, after_outcome, asked, is_edit, kept_line, left_after, left_of, line_left, line_stands, outcome_of, some_places, sums_asked, unless}
 use Rattle.fits_cli.specs.Output.{standing_after}
 
 -- unless an edit was accepted by then, none was before, and the file and its marks are as they were
@@ -55,11 +56,16 @@ line_stays standing TooLong e = (e, refl)
 line_stays standing (NoCommand misfit) e = (e, refl)
 line_stays standing (Said command) e = command_stays standing command e
 
+-- and whatever a line stands for
+stood_stays : (standing : Standing) (stands : Result (List ℕ) Unmet) → Stays standing (left_of standing stands)
+stood_stays standing (Ok plain) e = line_stays standing (reading_of plain) e
+stood_stays standing (Err why) e = (e, refl)
+
 -- all lines leave them, where none of them is an edit that was accepted
 pub lines_stay : (standing : Standing) (lines : List (List ℕ)) → Stays standing (standing_after standing lines)
-unfolding standing_after
+unfolding standing_after left_after
 lines_stay standing [] e = (e, refl)
 lines_stay standing (line ∷ lines) e =
-    let others = lines_stay (line_left standing (reading_of line)) lines e in
-    let first = line_stays standing (reading_of line) others.0 in
+    let others = lines_stay (left_after standing line) lines e in
+    let first = stood_stays standing (line_stands standing line) others.0 in
     (first.0, others.1 ∙ first.1)

@@ -1,5 +1,5 @@
 -- What the lines of a script do to a file: the edits that are done, in their order (own).
-use Rattle.std.specs.Prelude.{◌≡◌, ℕ, List, [], ◌∷◌, ◌++◌, map, Option, None, Some}
+use Rattle.std.specs.Prelude.{◌≡◌, ℕ, List, [], ◌∷◌, ◌++◌, false, map, Option, None, Some, Result, Ok, Err, IsOk}
 use Rattle.fits_edit.specs.declared.edit.Edit.{Edit}
 use Rattle.fits_session.specs.Marked.{Marked, marked_refusal}
 use Rattle.fits_making.specs.declared.refusal.Refusal.{Refusal}
@@ -7,8 +7,9 @@ use Rattle.fits_script.specs.Line.{reading_of}
 use Rattle.fits_script.specs.declared.command.Command.TheVariants as command
 use Rattle.fits_script.specs.declared.line_reading.LineReading.{LineReading}
 use Rattle.fits_script.specs.declared.line_reading.LineReading.TheVariants.{Said}
-use Rattle.fits_cli.specs.Answer.{Standing, line_left}
-use Rattle.fits_cli.specs.Output.{standing_after}
+use Rattle.fits_extended.specs.declared.unmet.Unmet.{Unmet}
+use Rattle.fits_cli.specs.Answer.{Standing, left_after, line_stands}
+use Rattle.fits_cli.specs.Output.{answers, standing_after}
 use Rattle.fits_passing.specs.File.{FileParts}
 use Rattle.fits_making.specs.Keeping.{are_right, vouch}
 use Rattle.fits_session.specs.Marked.{vouched}
@@ -21,15 +22,20 @@ abbrev pub edit_unless : Option Refusal → Edit → List Edit
 edit_unless None edit = edit ∷ []
 edit_unless (Some why) edit = []
 
--- the edit of a line, if it says one that is done
+-- the edit of a plain line, if it says one that is done
 abbrev pub edits_said : Marked → LineReading → List Edit
 edits_said it (Said (command.Edit edit)) = edit_unless (marked_refusal it edit) edit
 edits_said it reading = []
 
+-- that of what a line stands for
+abbrev pub edits_stood : Marked → Result (List ℕ) Unmet → List Edit
+edits_stood it (Ok plain) = edits_said it (reading_of plain)
+edits_stood it (Err why) = []
+
 -- those of lines, in their order
 abbrev pub edits_of : Standing → List (List ℕ) → List Edit
 edits_of standing [] = []
-edits_of standing (line ∷ lines) = edits_said standing.marked (reading_of line) ++ edits_of (line_left standing (reading_of line)) lines
+edits_of standing (line ∷ lines) = edits_stood standing.marked (line_stands standing line) ++ edits_of (left_after standing line) lines
 
 -- lines leave what these edits do, each of which is accepted in its turn
 pub record IsEdited (standing : Standing) (lines : List (List ℕ)) : Type 0 where
@@ -43,3 +49,27 @@ pub record LeavesSums (terms : Terms) (file : FileParts) (lines : List (List ℕ
   pub sound : let left : Marked = (standing_after (at_first_line terms file) lines).marked in AreKeptSo vouch left left.kept
   pub right : AreKeptSo are_right (standing_after (at_first_line terms file) lines).marked (marks_after_each (right_marks file) (edits_of (at_first_line terms file) lines))
   pub others : AreKnown (standing_after (at_first_line terms file) lines).marked (known_after_each (vouched file) (map unvouched_cards file.hdus) (edits_of (at_first_line terms file) lines))
+
+-- how things stand where extended lines aren't taken
+abbrev pub unextended : Standing → Standing
+unextended standing = record standing { extended = false }
+
+-- the plain line that a line stands for; one that stands for none stays
+abbrev pub plain_or : List ℕ → Result (List ℕ) Unmet → List ℕ
+plain_or line (Ok plain) = plain
+plain_or line (Err why) = line
+
+-- the plain lines that lines stand for, each in the file as those before it left it
+abbrev pub plain_lines : Standing → List (List ℕ) → List (List ℕ)
+plain_lines standing [] = []
+plain_lines standing (line ∷ lines) = plain_or line (line_stands standing line) ∷ plain_lines (left_after standing line) lines
+
+-- each of the lines stands for one
+abbrev pub AllStand : Standing → List (List ℕ) → Type 0
+AllStand standing [] = Unit {0}
+AllStand standing (line ∷ lines) = IsOk (line_stands standing line) × AllStand (left_after standing line) lines
+
+-- lines print and leave what the plain lines do that they stand for, each in its place
+pub record ArePlain (standing : Standing) (lines : List (List ℕ)) : Type 0 where
+  pub text : answers standing lines ≡ answers (unextended standing) (plain_lines standing lines)
+  pub left : unextended (standing_after standing lines) ≡ standing_after (unextended standing) (plain_lines standing lines)

@@ -8,6 +8,7 @@ use Rattle.fits_rules.specs.Shape.{shape_of}
 use Rattle.fits_rules.specs.declared.array_shape.Shape.{Shape}
 use Rattle.fits_passing.specs.Hdu.{HduParts}
 use Rattle.fits_hdu.specs.Keyword.{keyword_value}
+use Rattle.fits_hdu.specs.State.{card_placed}
 use Rattle.fits_image.specs.Kind.{kind_in as hdu_kind}
 use Rattle.fits_hdu.specs.Pixels.{rect_of}
 use Rattle.fits_passing.specs.Stats.{stats_of, Stats}
@@ -21,7 +22,7 @@ use Rattle.fits_passing.specs.File.{FileParts, is_primary_hdu}
 use Rattle.fits_session.specs.Edit.{hdu_of}
 use Rattle.fits_making.specs.HduEdit.{shaped}
 use Rattle.fits_making.specs.declared.refusal.Refusal.{Refusal}
-use Rattle.fits_making.specs.declared.refusal.Refusal.TheVariants.{NoHdu, Shape as BadShape, Memory}
+use Rattle.fits_making.specs.declared.refusal.Refusal.TheVariants.{NoHdu, NoCard, Shape as BadShape, Memory}
 use Rattle.fits_making.specs.Refusal.{refusal_of_keyword}
 
 -- what an HDU answers, if it is there
@@ -32,6 +33,10 @@ in_hdu answer (Some hdu) = answer hdu
 -- how many cards HDU h has, END not counted
 abbrev pub card_count_in : FileParts → ℕ → Result ℕ Refusal
 card_count_in file h = in_hdu (λ hdu. Ok (length hdu.header.cards)) (hdu_of file h)
+
+-- the card at a place of HDU h
+abbrev pub card_in : FileParts → ℕ → ℕ → Result (List ℕ) Refusal
+card_in file h place = in_hdu (λ hdu. ok_or (card_placed hdu.header.cards place) NoCard) (hdu_of file h)
 
 -- a shape, which each HDU of a file has
 abbrev pub some_shape : Result Shape ℕ → Result Shape Refusal

@@ -16,6 +16,7 @@ const FILE_LEN: usize = 3 * 2880;
 
 /// What is saved of each file, whatever it was before.
 const TERMS: Terms = Terms {
+    extended: false,
     sums: false,
     spare: false,
     saves: Saves::Made {

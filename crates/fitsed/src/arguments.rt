@@ -19,6 +19,7 @@ const EDITS: Form = Form {
     words: &[
         Word::Line,
         Word::File,
+        Word::Extended,
         Word::Verbose(WHY_LINES),
         Word::Named,
         Word::Flag("all", 'a', "Save nothing unless every line is done"),
@@ -38,6 +39,7 @@ const EDITS: Form = Form {
             's',
             "Keep sums right that are right, and leave wrong ones as they are",
         ),
+        Word::Done,
         Word::NoClobber,
         Word::Flag(
             "safe",
@@ -59,6 +61,7 @@ const ASKS: Form = Form {
     words: &[
         Word::Line,
         Word::File,
+        Word::Extended,
         Word::Verbose(WHY_LINES),
         Word::Named,
         Word::Files,

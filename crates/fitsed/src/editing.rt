@@ -11,8 +11,9 @@ use crate::files::{Standing, is_stored, mode_of, standing_at};
 use crate::piece::{Piece, script_of};
 use crate::remarks::{before_remarks, remarks_after};
 use crate::reporting::{
-    NOT_TAKEN, report_beside, report_left_over, report_made_hyphen, report_new, report_replaced,
-    report_undone, reported, reported_oddity, reported_of, reported_save, reported_script,
+    NOT_TAKEN, report_beside, report_done, report_left_over, report_made_hyphen, report_new,
+    report_replaced, report_undone, reported, reported_oddity, reported_of, reported_save,
+    reported_script,
 };
 use crate::saved_end::SavedEnd;
 use crate::scaled::{has_pixel_line, tell_scaled};
@@ -68,11 +69,13 @@ pub fn edit<R: Files<File = File> + Input + Print + Eprint + AllocGlobal>(
     }
 }
 
-/// Edits each file where it stands, by the same script. The status is the greatest.
+/// Edits each file where it stands, by the same script. The status is the greatest. If it `tells`,
+/// the name of each goes to standard error once it is saved.
 pub fn edit_in_place<R: Files<File = File> + Input + Print + Eprint + AllocGlobal>(
     rt: &R,
     script: &[Piece<'_>],
     files: Inputs<'_, '_>,
+    tells: bool,
     terms: SavingTerms<'_>,
     detail: Detail<'_>,
 ) -> u8 {
@@ -98,6 +101,9 @@ pub fn edit_in_place<R: Files<File = File> + Input + Print + Eprint + AllocGloba
         tell_values(rt, subject, &text);
         let done = named_edited(rt, at, terms, &mut text.as_slice(), &mut out);
         status = status.max(status_of(rt, at, terms, path, &done));
+        if tells && done.is_saved() {
+            report_done(rt, path);
+        }
         if done.ends_all() {
             return status;
         }
@@ -230,6 +236,7 @@ fn terms_of(terms: SavingTerms<'_>, there: Standing) -> Terms
     };
     Terms {
         sums: terms.sums,
+        extended: terms.extended,
         spare: matches!(there, Standing::Same),
         saves: Saves::Made {
             whole: terms.whole,

@@ -100,15 +100,20 @@ fn status_of<R: Files<File = File> + Input + Print + Eprint + AllocGlobal>(
             script,
             paths,
             named,
+            done,
             terms,
         } => {
             let files = Inputs {
                 paths: &paths,
                 named,
             };
-            edit_in_place(rt, &script, files, terms, detail)
+            edit_in_place(rt, &script, files, done, terms, detail)
         }
-        Task::Ask { script, files } => ask(rt, &script, files, detail),
+        Task::Ask {
+            script,
+            extended,
+            files,
+        } => ask(rt, &script, extended, files, detail),
         Task::Show { choice, files } => each(rt, Job::Show(&choice), files, detail),
         Task::Tell { telling, files } => each(rt, Job::Tell(telling), files, detail),
         Task::Name { telling, files } => name(rt, telling, files, detail),

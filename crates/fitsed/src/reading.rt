@@ -23,8 +23,8 @@ use std::{fs, io, rt};
 /// What is done with a file.
 #[derive(Clone, Copy)]
 pub enum Job<'j> {
-    /// A script is answered.
-    Ask(&'j [u8]),
+    /// A script is answered, with extended lines or without.
+    Ask(&'j [u8], bool),
     /// Its cards are shown.
     Show(&'j CardChoice),
     /// A text of it is printed.
@@ -35,7 +35,7 @@ impl Job<'_> {
     // Whether it is about values of pixels.
     fn has_values(&self) -> bool {
         match *self {
-            Job::Ask(script) => has_pixel_line(script),
+            Job::Ask(script, _) => has_pixel_line(script),
             Job::Tell(Telling::Statistics) => true,
             _ => false,
         }
@@ -47,6 +47,7 @@ impl Job<'_> {
 pub fn ask<R: rt::Files<File = File> + Input + Print + Eprint + AllocGlobal>(
     rt: &R,
     script: &[Piece<'_>],
+    extended: bool,
     files: Inputs<'_, '_>,
     detail: Detail<'_>,
 ) -> u8 {
@@ -56,10 +57,10 @@ pub fn ask<R: rt::Files<File = File> + Input + Print + Eprint + AllocGlobal>(
             named: files.named,
             detail,
         };
-        return ask_as_it_comes(rt, subject);
+        return ask_as_it_comes(rt, extended, subject);
     }
     match script_of(rt, script) {
-        Ok(text) => each(rt, Job::Ask(&text), files, detail),
+        Ok(text) => each(rt, Job::Ask(&text, extended), files, detail),
         Err(why) => reported_script(rt, detail, why),
     }
 }
@@ -162,6 +163,7 @@ fn one<R: rt::Files<File = File> + Eprint + AllocGlobal, W: Write>(
 // Answers standard input over one file, as it comes.
 fn ask_as_it_comes<R: rt::Files<File = File> + Input + Print + Eprint + AllocGlobal>(
     rt: &R,
+    extended: bool,
     subject: Subject<'_>,
 ) -> u8 {
     let Ok(mut out) = BufWriter::new(rt.alloc(), io::writer(rt)) else {
@@ -177,9 +179,9 @@ fn ask_as_it_comes<R: rt::Files<File = File> + Input + Print + Eprint + AllocGlo
     let mut out = Watched::new(&mut out);
     let end = if subject.named {
         let mut out = NamedLines::new(out, name.as_bytes());
-        asked(rt.alloc(), subject, file, &mut script, &mut out)
+        asked(rt.alloc(), extended, subject, file, &mut script, &mut out)
     } else {
-        asked(rt.alloc(), subject, file, &mut script, &mut out)
+        asked(rt.alloc(), extended, subject, file, &mut script, &mut out)
     };
     match end.fault {
         Some(fault) => reported_of(rt, subject, INPUT, fault),
@@ -196,9 +198,9 @@ fn run<R: Eprint + AllocGlobal, O: Sink>(
     out: &mut O,
 ) -> End {
     match job {
-        Job::Ask(text) => {
+        Job::Ask(text, extended) => {
             let mut script = text;
-            asked(rt.alloc(), subject, file, &mut script, out)
+            asked(rt.alloc(), extended, subject, file, &mut script, out)
         }
         Job::Show(choice) => {
             let done = run_cards(rt.alloc(), choice, &mut source_of(file), out);
@@ -212,12 +214,13 @@ fn run<R: Eprint + AllocGlobal, O: Sink>(
 // Answers a script over a file. The data of a regular one are read where they are wanted.
 fn asked<S: Source, O: Sink>(
     alloc: Global,
+    extended: bool,
     subject: Subject<'_>,
     file: File,
     script: &mut S,
     out: &mut O,
 ) -> End
-    ensures { AsksFile (S.state script.old) (S.state script.new)
+    ensures { AsksFile extended (S.state script.old) (S.state script.new)
         (O.state out.old) (O.state out.new) result }
 {
     let Ok(before) = before_remarks(alloc, subject) else {
@@ -227,9 +230,24 @@ fn asked<S: Source, O: Sink>(
         return End::from(Fault::Memory);
     };
     if is_stored(&file) {
-        return run_ask_stored(alloc, &file, &mut ReadLog::none(), script, out, &mut told);
+        return run_ask_stored(
+            alloc,
+            extended,
+            &file,
+            &mut ReadLog::none(),
+            script,
+            out,
+            &mut told,
+        );
     }
-    run_ask(alloc, &mut Watched::new(file), script, out, &mut told)
+    run_ask(
+        alloc,
+        extended,
+        &mut Watched::new(file),
+        script,
+        out,
+        &mut told,
+    )
 }
 
 // What stands before each line: the name and a colon.

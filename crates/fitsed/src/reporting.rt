@@ -181,6 +181,11 @@ pub fn report_new<R: Eprint>(rt: &R, name: &str, errors: u64, warnings: u64) {
     };
 }
 
+/// Reports that a file is edited: its name alone, for who goes on from there.
+pub fn report_done<R: Eprint>(rt: &R, name: &str) {
+    let _ = eprintln!(rt; "{name}");
+}
+
 /// Reports that another file stood where one was saved.
 pub fn report_replaced<R: Eprint>(rt: &R, name: &str) {
     let _ = eprintln!(rt; "fitsed: {name}: replaced");

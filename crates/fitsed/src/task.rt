@@ -25,11 +25,15 @@ pub enum Task<'m, 'a> {
         script: Vec<Piece<'a>>,
         paths: Vec<&'a str>,
         named: bool,
+        /// Whether the name of each is told once it is saved.
+        done: bool,
         terms: SavingTerms<'a>,
     },
     /// A script is done on each file, and nothing is saved.
     Ask {
         script: Vec<Piece<'a>>,
+        /// Whether extended lines are taken.
+        extended: bool,
         files: Inputs<'m, 'a>,
     },
     /// Cards of each file are printed.
@@ -60,6 +64,8 @@ pub struct SavingTerms<'a> {
     pub strict: bool,
     /// So that sums that were right are right.
     pub sums: bool,
+    /// With extended lines.
+    pub extended: bool,
     /// Only where nothing stands.
     pub fresh: bool,
     /// Only where the file that stands there stays whole, or is kept.
@@ -119,6 +125,7 @@ pub fn task_of<'m, 'a>(
     Ok(match name {
         "ask" => Task::Ask {
             script: pieces_of(alloc, words)?,
+            extended: words.get_flag("extended"),
             files,
         },
         "cards" => Task::Show {
@@ -161,6 +168,7 @@ fn edit_of<'m, 'a>(
             script,
             named: are_named(&paths, named)?,
             paths,
+            done: words.get_flag("done"),
             terms,
         });
     }
@@ -186,6 +194,7 @@ fn terms_of<'a>(words: &ArgMatches<'a>) -> SavingTerms<'a> {
         checked: words.get_flag("check"),
         strict: words.get_flag("warnings"),
         sums: words.get_flag("sums"),
+        extended: words.get_flag("extended"),
         fresh: words.get_flag("no-clobber"),
         saving: Saving {
             safe: words.get_flag("safe"),

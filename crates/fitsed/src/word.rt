@@ -11,10 +11,14 @@ pub enum Word {
     Line,
     /// A file with lines of the script.
     File,
+    /// Whether extended lines are taken.
+    Extended,
     /// Whether standard error is told more.
     Verbose(&'static str),
     /// Whether warnings count as errors.
     Strict,
+    /// Whether each file is told of once it is done.
+    Done,
     /// Whether a file that stands at OUT stays.
     NoClobber,
     /// What ends the name that the old file keeps.
@@ -42,8 +46,10 @@ impl Word {
             Word::Flag(id, letter, help) => Ok(flag(alloc, id, letter, help)),
             Word::Line => Ok(line(alloc)),
             Word::File => Ok(file(alloc)),
+            Word::Extended => Ok(extended(alloc)),
             Word::Verbose(help) => Ok(flag(alloc, "verbose", 'v', help)),
             Word::Strict => strict(alloc),
+            Word::Done => done(alloc),
             Word::NoClobber => no_clobber(alloc),
             Word::Backup => Ok(backup(alloc)),
             Word::Named => Ok(named(alloc)),
@@ -67,9 +73,22 @@ fn file<'a>(alloc: Global) -> Arg<'a> {
     list(alloc, "file", 'f', "SCRIPT", help)
 }
 
+fn extended<'a>(alloc: Global) -> Arg<'a> {
+    let help = "Take extended lines too, each for a plain line";
+    flag(alloc, "extended", 'x', help)
+}
+
 fn strict<'a>(alloc: Global) -> Result<Arg<'a>, AllocError> {
     let help = "With -c: warnings count as errors do";
     flag(alloc, "warnings", 'w', help).requires_arg("check")
+}
+
+fn done<'a>(alloc: Global) -> Result<Arg<'a>, AllocError> {
+    Arg::new(alloc, "done")
+        .long("done")
+        .action(ArgAction::SetTrue)
+        .help("With -i: write the name of each file to standard error once it is saved")
+        .requires_arg("in-place")
 }
 
 fn no_clobber<'a>(alloc: Global) -> Result<Arg<'a>, AllocError> {

@@ -1,6 +1,6 @@
 use Rattle.std.proofs.Common.{◌≡◌, ◌≤◌, ◌++◌, length}
 use Rattle.fits_value.specs.Spelling.{doubled}
-use Rattle.fits_cli.proofs.value_line.push_doubled.Given as goal
+use Rattle.fits_extended.proofs.plain_text.push_doubled.Given as goal
 
 abbrev pub invariant-quotes : goal.invariant-quotes
 invariant-quotes l = l.line.items ++ doubled l.rest ≡ l.fn.line.items ++ doubled l.text

@@ -1,6 +1,6 @@
 use Rattle.std.proofs.Common.{arith}
-use Rattle.fits_cli.proofs.ValueLineLemmas.{doubled-step}
-use Rattle.fits_cli.proofs.value_line.push_doubled.Goals as goal
+use Rattle.fits_extended.proofs.TextLemmas.{doubled-step}
+use Rattle.fits_extended.proofs.plain_text.push_doubled.Goals as goal
 
 pub row-init : goal.row-init
 row-init c = record {

@@ -1,0 +1,4 @@
+pub mod SameLemmas
+pub mod SayingLemmas
+pub mod TextLemmas
+pub mod WordLemmas

@@ -1,0 +1,69 @@
+//! A card after the last one that isn't blank.
+ghost use Rattle.std.specs.Prelude.{◌≡◌, ◌≤◌, IfOk};
+ghost use Rattle.std.specs.Option.{option_copied};
+ghost use Rattle.fits_session.specs.Away.{LieStill};
+ghost use Rattle.fits_session.specs.Query.{card_in};
+ghost use Rattle.fits_session.specs.Session.{file_of, marked_of};
+ghost use Rattle.fits_script.specs.Words.{number_of_word};
+ghost use Rattle.fits_extended.specs.Stands.{adding_by, is_blank_card, last_filled};
+ghost use Rattle.fits_extended.specs.Words.{next_of};
+
+use crate::plain_text::{card_line, with_verb};
+use crate::words::{next_of, text_of};
+use fits_script::number_of_word;
+use fits_session::{Holder, Session};
+use std::alloc::{AllocError, Global};
+
+/// `add H CARD`, by what follows the verb.
+pub(crate) fn add_line<H: Holder + Drop>(
+    alloc: Global,
+    session: &mut Session<H>,
+    rest: Option<&[u8]>,
+) -> Result<Vec<u8>, AllocError>
+    ensures ok { IfOk result (λ line. line.items ≡ adding_by (file_of session.old)
+        (option_copied rest.entry) (number_of_word (next_of (option_copied rest.entry)))) }
+    ensures same { marked_of session.new ≡ marked_of session.old }
+    ensures stays { LieStill session.old.hdus session.new.hdus }
+{
+    let (word, more) = next_of(rest);
+    let Some(hdu) = number_of_word(word) else {
+        return with_verb(alloc, b"get", rest);
+    };
+    let card = text_of(more);
+    let Ok(count) = session.card_count(hdu) else {
+        return card_line(alloc, b"ins", hdu, 1, card);
+    };
+    let place = last_filled(session, hdu, count);
+    let verb: &[u8] = if place < count { b"put" } else { b"ins" };
+    card_line(alloc, verb, hdu, place + 1, card)
+}
+
+// The last place of an HDU, of so many, whose card isn't blank.
+#[tactic(auto, unfolding(crate::specs::Stands::last_without))]
+fn last_filled<H: Holder + Drop>(session: &mut Session<H>, hdu: usize, count: usize) -> usize
+    ensures value { result ≡ last_filled (file_of session.old) hdu count }
+    ensures within { result ≤ count }
+    ensures same { marked_of session.new ≡ marked_of session.old }
+    ensures stays { LieStill session.old.hdus session.new.hdus }
+{
+    let mut place = count;
+    'places: while place > 0 {
+        if !is_blank_at(session, hdu, place) {
+            return place;
+        }
+        place -= 1;
+    }
+    0
+}
+
+// Whether a card is there, and blank.
+fn is_blank_at<H: Holder + Drop>(session: &mut Session<H>, hdu: usize, place: usize) -> bool
+    ensures value { result ≡ is_blank_card (card_in (file_of session.old) hdu place) }
+    ensures same { marked_of session.new ≡ marked_of session.old }
+    ensures stays { LieStill session.old.hdus session.new.hdus }
+{
+    match session.card(hdu, place) {
+        Ok(card) => card.0.iter().all(|byte| *byte == b' '),
+        Err(_) => false,
+    }
+}
