@@ -4,7 +4,7 @@ ghost use Rattle.fits_passing.specs.Headers.{read_cards};
 ghost use Rattle.fits_tell.specs.Report.{after_colon, card_in, card_of, card_problem_line};
 
 use crate::card_lines::push_shown_text;
-use crate::report_lines::push_problem_text;
+use crate::report_text::push_problem_text;
 use fits_card::{Card, CardList};
 use fits_passing::Problem;
 use std::alloc::AllocError;

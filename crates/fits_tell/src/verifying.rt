@@ -11,7 +11,7 @@ use crate::fault::Fault;
 use crate::level::Level;
 use crate::printing::print;
 use crate::problem_card::push_card_problem;
-use crate::report_lines::{push_closing_line, status_of_report};
+use crate::report_text::{push_closing_line, status_of_report};
 use crate::telling::{Telling, run_telling};
 use fits_card::CardList;
 use fits_passing::{CardReport, Problem, ReadFileFault, read_card_report, read_report};

@@ -1,6 +1,6 @@
 use Rattle.std.proofs.Common.{◌≡◌, ◌≤◌, take}
 use Rattle.fits_tell.specs.Report.{errors_in}
-use Rattle.fits_tell.proofs.report_lines.count_errors.Given as goal
+use Rattle.fits_tell.proofs.report_text.count_errors.Given as goal
 
 abbrev pub invariant-loop-it : goal.invariant-loop-it
 invariant-loop-it l = record {

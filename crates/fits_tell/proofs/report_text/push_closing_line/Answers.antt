@@ -1,5 +1,5 @@
 use Rattle.fits_tell.proofs.ReportLemmas.{others_warn}
-use Rattle.fits_tell.proofs.report_lines.push_closing_line.Goals as goal
+use Rattle.fits_tell.proofs.report_text.push_closing_line.Goals as goal
 
 pub returns : goal.returns
 returns c = rw (others_warn c.args.report.now _ c.count_errors-errors.ensures.value, c.count_errors-errors.ensures.value) at c.push_counts.ensures
