@@ -36,7 +36,7 @@ def completions():
     """Where a command's help and the completions have other flags."""
     commands = re.findall(r"^  (\w+) ", said(PROGRAM, "--help").partition("Commands:")[2].partition("Options:")[0], re.M)
     for command in sorted(set(commands) - {"help"}):
-        wanted = set(re.findall(r"(?:^|\s)(--[a-z-]+)", said(PROGRAM, command, "--help").partition("Options:")[2].partition("\n\n")[0]))
+        wanted = set(re.findall(r"(?:^|\s)(--[a-z0-9-]+)", said(PROGRAM, command, "--help").partition("Options:")[2].partition("\n\n")[0]))
         yield f"completions of {command}", wanted, completed(command)
 
 
