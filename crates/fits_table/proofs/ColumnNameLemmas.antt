@@ -74,6 +74,7 @@ first_fails : (a b : Bool) → (a || b) ≡ false → a ≡ false
 first_fails true b e = e
 first_fails false b e = refl
 
+-- nor does the other one
 second_fails : (a b : Bool) → (a || b) ≡ false → b ≡ false
 second_fails true b e = cc
 second_fails false b e = e

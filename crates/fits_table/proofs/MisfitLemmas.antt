@@ -38,6 +38,7 @@ silent : (sizes : Option (List ℕ)) (count : ℕ) → None ≡ option_map (λ n
 silent None count e = refl
 silent (Some ns) count e = absurd (let some : ◌≡◌ {A = Option ℕ} None (Some (limited (product ns))) = e in cc)
 
+-- without a product that is known there is no room for it
 pub no_room : (text : List ℕ) (count : ℕ) → None ≡ limited_volume text → false ≡ option_map_or (λ sizes. leb (product sizes) count) (dimensions_of text) false
 unfolding limited_volume
 no_room text count e = silent (dimensions_of text) count e
@@ -47,6 +48,7 @@ some_mapped : (sizes : Option (List ℕ)) → is_some (option_map (λ ns. limite
 some_mapped None = refl
 some_mapped (Some ns) = refl
 
+-- a text has a product exactly where it says dimensions
 pub volume_some : (text : List ℕ) → is_some (limited_volume text) ≡ is_some (dimensions_of text)
 unfolding limited_volume
 volume_some text = some_mapped (dimensions_of text)

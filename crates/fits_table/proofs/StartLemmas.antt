@@ -32,6 +32,7 @@ start_over n over =
     let large : leb n 9223372036854775807 ≡ false = grind (arith, nat_tests) in
     grind (arith, nat_tests)
 
+-- nor is a number of more than 64 bits
 pub start_large : (o : Option ℤ) → TooLarge ≡ in_64_bits o → None ≡ option_and_then start_in o
 start_large None e = refl
 start_large (Some (pos n)) e = sym (start_over n (large_is (has_64_bits (pos n)) (pos n) e))
