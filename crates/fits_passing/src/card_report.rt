@@ -13,7 +13,7 @@ use crate::read_file_fault::ReadFileFault;
 use crate::reporting::report_of;
 use crate::walking::read_kept;
 use fits_card::CardList;
-use fits_stream::Source;
+use fits_stream::{Reach, Source};
 use std::alloc::{AllocError, Global};
 
 /// The report of a file, and the cards of each of its HDUs.
@@ -36,7 +36,7 @@ pub fn read_card_report<R: Source>(
     ensures err { IfErr result (ReadStops (R.state source.old) (R.state source.new)) }
     ensures gave { IfErr result (GaveFault (R.state source.old) (R.state source.new)) }
 {
-    let (kept, followed) = read_kept::<FoundCards, R>(alloc, source)?;
+    let (kept, followed) = read_kept::<FoundCards, R>(alloc, source, Reach::Piece)?;
     let (found, cards) = parted(alloc, kept)?;
     let problems = report_of(alloc, &found, followed)?;
     Ok(CardReport { problems, cards })

@@ -11,7 +11,7 @@ use crate::limits::{FILE_LIMIT, HDU_LIMIT};
 use crate::open_fault::OpenFault;
 use crate::walking::{begins_extension, begins_file, open_fault};
 use fits_card::{BLOCK_LEN, CardList};
-use fits_stream::{Intake, ReadFault, Source};
+use fits_stream::{Intake, Reach, ReadFault, Source};
 use std::alloc::Global;
 
 /// The headers of what a source has, as far as they can be read.
@@ -32,7 +32,7 @@ pub fn read_headers<R: Source>(alloc: Global, source: &mut R) -> Result<Headers,
     ensures quiet { OnOk result (StaysQuiet (R.state source.old) (R.state source.new)) }
     ensures err { IfErr result (TakingStops (R.state source.old) (R.state source.new)) }
 {
-    let mut intake = Intake::new(alloc, FILE_LIMIT as usize)?;
+    let mut intake = Intake::new(alloc, FILE_LIMIT as usize, Reach::Wanted)?;
     let mut headers = Vec::new(alloc);
     let fault = match walk_headers(alloc, &mut headers, &mut intake, source) {
         Ok(fault) => fault,

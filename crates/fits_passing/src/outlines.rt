@@ -6,7 +6,7 @@ ghost use Rattle.fits_passing.specs.Reading.{GaveFault, GaveWhole, IsOutlineOf, 
 use crate::outline::Outline;
 use crate::read_file_fault::ReadFileFault;
 use crate::walking::read_kept;
-use fits_stream::Source;
+use fits_stream::{Reach, Source};
 use std::alloc::Global;
 
 /// The outlines of the HDUs of the file that a source has, which is gone through to its end, or
@@ -26,6 +26,6 @@ pub fn read_outlines<R: Source>(
     ensures err { IfErr result (ReadStops (R.state source.old) (R.state source.new)) }
     ensures gave { IfErr result (GaveFault (R.state source.old) (R.state source.new)) }
 {
-    let (outlines, _) = read_kept(alloc, source)?;
+    let (outlines, _) = read_kept(alloc, source, Reach::Wanted)?;
     Ok(outlines)
 }

@@ -15,7 +15,7 @@ use crate::read_file_fault::ReadFileFault;
 use crate::walking::read_kept;
 use fits_codes::{Code, CodeSet};
 use fits_header::Finding;
-use fits_stream::Source;
+use fits_stream::{Reach, Source};
 use std::alloc::{AllocError, Global};
 
 /// The report of the file that a source has, which is read as by `read_outlines`.
@@ -27,7 +27,7 @@ pub fn read_report<R: Source>(alloc: Global, source: &mut R) -> Result<Vec<Probl
     ensures err { IfErr result (ReadStops (R.state source.old) (R.state source.new)) }
     ensures gave { IfErr result (GaveFault (R.state source.old) (R.state source.new)) }
 {
-    let (found, followed) = read_kept::<Findings, R>(alloc, source)?;
+    let (found, followed) = read_kept::<Findings, R>(alloc, source, Reach::Piece)?;
     let report = report_of(alloc, &found, followed)?;
     Ok(report)
 }

@@ -6,7 +6,7 @@ ghost use Rattle.fits_passing.specs.Reading.{AreStatisticsOfFile, GaveFault, Gav
 use crate::hdu_stats::HduStats;
 use crate::read_file_fault::ReadFileFault;
 use crate::walking::read_kept;
-use fits_stream::Source;
+use fits_stream::{Reach, Source};
 use std::alloc::Global;
 
 /// The statistics of the HDUs of the file that a source has, which is read as by `read_outlines`.
@@ -22,6 +22,6 @@ pub fn read_statistics<R: Source>(
     ensures err { IfErr result (ReadStops (R.state source.old) (R.state source.new)) }
     ensures gave { IfErr result (GaveFault (R.state source.old) (R.state source.new)) }
 {
-    let (stats, _) = read_kept(alloc, source)?;
+    let (stats, _) = read_kept(alloc, source, Reach::Piece)?;
     Ok(stats)
 }

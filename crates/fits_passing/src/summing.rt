@@ -6,7 +6,7 @@ ghost use Rattle.fits_passing.specs.Reading.{AreSumsOfFile, GaveFault, GaveWhole
 use crate::hdu_sums::HduSums;
 use crate::read_file_fault::ReadFileFault;
 use crate::walking::read_kept;
-use fits_stream::Source;
+use fits_stream::{Reach, Source};
 use std::alloc::Global;
 
 /// The sums of the HDUs of the file that a source has, which is read as by `read_outlines`.
@@ -19,6 +19,6 @@ pub fn read_sums<R: Source>(alloc: Global, source: &mut R) -> Result<Vec<HduSums
     ensures err { IfErr result (ReadStops (R.state source.old) (R.state source.new)) }
     ensures gave { IfErr result (GaveFault (R.state source.old) (R.state source.new)) }
 {
-    let (sums, _) = read_kept(alloc, source)?;
+    let (sums, _) = read_kept(alloc, source, Reach::Piece)?;
     Ok(sums)
 }

@@ -17,7 +17,7 @@ use crate::open_fault::OpenFault;
 use crate::read_file_fault::ReadFileFault;
 use crate::read_hdu_fault::ReadHduFault;
 use fits_card::BLOCK_LEN;
-use fits_stream::{Intake, Source};
+use fits_stream::{Intake, Reach, Source};
 use std::alloc::Global;
 
 /// What is kept of the HDUs of what may be taken of a source. Then the block after the last lies
@@ -68,6 +68,7 @@ pub fn walk<K: Kept + Drop, R: Source>(
 pub(crate) fn read_kept<K: Kept + Drop, R: Source>(
     alloc: Global,
     source: &mut R,
+    reach: Reach,
 ) -> Result<(Vec<K>, bool), ReadFileFault>
     ensures ok { IfOk result (λ walk. GaveWhole (R.state source.old) (R.state source.new)
         (IsWalkOf K.keeps walk.0.items walk.1)) }
@@ -75,7 +76,7 @@ pub(crate) fn read_kept<K: Kept + Drop, R: Source>(
     ensures err { IfErr result (ReadStops (R.state source.old) (R.state source.new)) }
     ensures gave { IfErr result (GaveFault (R.state source.old) (R.state source.new)) }
 {
-    let mut intake = Intake::new(alloc, FILE_LIMIT as usize)?;
+    let mut intake = Intake::new(alloc, FILE_LIMIT as usize, reach)?;
     match walk(alloc, &mut intake, source) {
         Ok(kept) => {
             let followed = !intake.ahead().is_empty();

@@ -17,7 +17,7 @@ use fits_edit::Edit;
 use fits_hdu::Hdu;
 use fits_making::Refusal;
 use fits_passing::{FILE_LIMIT, OpenFault, ReadFileFault};
-use fits_stream::{Intake, Source};
+use fits_stream::{Intake, Reach, Source};
 use naming::name_all;
 use opening::test_start;
 use reading::read_file;
@@ -108,7 +108,7 @@ impl Session {
         ensures err { IfErr result (ReadStops (R.state source.old) (R.state source.new)) }
         ensures gave { IfErr result (GaveFault (R.state source.old) (R.state source.new)) }
     {
-        let intake = Intake::new(alloc, FILE_LIMIT as usize)?;
+        let intake = Intake::new(alloc, FILE_LIMIT as usize, Reach::Piece)?;
         match read_file(alloc, intake, source) {
             Ok(parts) => Ok(Session::of(alloc, parts, InMemory)?),
             Err(fault) => Err(fault),

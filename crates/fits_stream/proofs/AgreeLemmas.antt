@@ -1,13 +1,11 @@
 -- Reads of a stored file, and files that they may be of.
-use Rattle.std.proofs.Common.{◌≡◌, ℕ, zero, suc, ◌+◌, ◌-◌, ◌<◌, ◌≤◌, List, [], ◌∷◌, ◌++◌, length, take, drop, refl, ap, sym, subst, ◌∙◌, append_assoc, arith, Option, None, Some}
+use Rattle.std.proofs.Common.{◌≡◌, ℕ, zero, suc, ◌+◌, ◌-◌, ◌≤◌, List, [], ◌∷◌, ◌++◌, length, drop, refl, ap, sym, subst, ◌∙◌, arith, Some}
 use Rattle.std.specs.List.{slice_get}
-use Rattle.std.proofs.lemmas.List.{append-nil, length-append, length-drop, length-take}
+use Rattle.std.proofs.lemmas.List.{append-nil}
 use Rattle.std.proofs.lemmas.Option.{none-some, same_Some}
-use Rattle.fits_stream.specs.Agree.{EndsAt, IsOf, ReadsOn, ReadsShort, ReadsSome}
-use Rattle.fits_stream.specs.Intake.{supply, IsOver, IsSpent, Supply, Takes, TakingStops}
-use Rattle.fits_stream.specs.Log.{placed, unskipped, Adds, AreThere, Grows, IsDone, IsThere, Log, Logs}
+use Rattle.fits_stream.specs.Agree.{EndsAt, IsOf, ReadsOn}
+use Rattle.fits_stream.specs.Log.{placed, unskipped, Adds, AreThere, Log}
 use Rattle.fits_stream.specs.Stored.{ReadLogState}
-use Rattle.fits_stream.specs.Stream.{FailsOnce, SourceState, StaysQuiet}
 
 -- what lies there as a whole, lies there in part
 some_there : (at : ℕ) (bytes : List ℕ) (some more : List (ℕ × ℕ)) → AreThere at bytes (some ++ more) → AreThere at bytes some

@@ -1,11 +1,11 @@
 -- What came of a source, put together.
-use Rattle.std.proofs.Common.{◌≡◌, ℕ, zero, suc, ◌+◌, ◌-◌, ◌<◌, ◌≤◌, List, [], ◌∷◌, ◌++◌, length, take, refl, ap, sym, subst, ◌∙◌, append_assoc, arith, Option, None, Some}
+use Rattle.std.proofs.Common.{◌≡◌, ℕ, zero, suc, ◌+◌, ◌-◌, ◌<◌, ◌≤◌, List, [], ◌∷◌, ◌++◌, length, refl, ap, sym, subst, ◌∙◌, append_assoc, arith, Option, None, Some}
 use Rattle.std.specs.List.{slice_get}
 use Rattle.std.proofs.lemmas.List.{append-nil, length-append}
 use Rattle.std.proofs.lemmas.Bool.{le-ltb, lt-ltb}
 use Rattle.std.proofs.lemmas.Option.{none-some}
-use Rattle.std.specs.Prelude.{Bool, OnErr, Result, Ok, Err, false, true, ◌==◌, nat_lt}
-use Rattle.fits_stream.specs.Log.{ended, grown, met_end, passed, placed, turned, unskipped, Adds, HasEnded, AreThere, IsThere, Log, Logs, NotesEnd}
+use Rattle.std.specs.Prelude.{OnErr, Result, Ok, Err, false, true, ◌==◌, nat_lt}
+use Rattle.fits_stream.specs.Log.{ended, grown, met_end, passed, placed, unskipped, Adds, HasEnded, AreThere, IsThere, Log, Logs, NotesEnd}
 
 -- bytes, and others after them, each with its place
 pub placed-append : (at : ℕ) (xs ys : List ℕ) → placed at (xs ++ ys) ≡ placed at xs ++ placed (at + length xs) ys

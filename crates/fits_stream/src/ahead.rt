@@ -45,23 +45,29 @@ impl<'a> Ahead<'a> {
         }
     }
 
-    /// Reads so many bytes more, or as many as there are.
-    pub(crate) fn fill<R: Source>(&mut self, source: &mut R, len: usize) -> io::Result<usize>
-        requires read { is_lent self.old ≡ true → len ≡ 0 }
-        requires room { length (ahead_bytes self.old) + len ≤ PIECE_LEN }
+    /// Reads at least so many bytes more, or as many as there are, and no more than `most`.
+    pub(crate) fn fill<R: Source>(
+        &mut self,
+        source: &mut R,
+        least: usize,
+        most: usize,
+    ) -> io::Result<usize>
+        requires read { is_lent self.old ≡ true → most ≡ 0 }
+        requires ordered { least ≤ most }
+        requires room { length (ahead_bytes self.old) + most ≤ PIECE_LEN }
         ensures ok { OnOk result (ReadsAfter (ahead_bytes self.old)
             (R.state source.old) (R.state source.new) (ahead_bytes self.new)) }
         ensures count { IfOk result (λ count. length (ahead_bytes self.new)
             ≡ length (ahead_bytes self.old) + count) }
-        ensures within { IfOk result (λ count. count ≤ len) }
-        ensures ends { IfOk result (λ count. count < len
+        ensures within { IfOk result (λ count. count ≤ most) }
+        ensures ends { IfOk result (λ count. count < least
             → IsDry (R.state source.new)) }
         ensures lent { is_lent self.new ≡ is_lent self.old }
         ensures size { OnErr result (length (ahead_bytes self.new) ≡ length (ahead_bytes self.old)) }
         ensures err { OnErr result (FailsOnce (R.state source.old) (R.state source.new)) }
     {
         match self {
-            Ahead::Read(piece) => piece.fill(source, len),
+            Ahead::Read(piece) => piece.fill(source, least, most),
             Ahead::Lent(_) => Ok(0),
         }
     }

@@ -4,7 +4,8 @@ ghost use Rattle.fits_stream.specs.Stream.{FailsOnce, IsDry, StaysQuiet};
 
 use crate::ahead::Ahead;
 use crate::piece::Piece;
-use crate::reading::ReadFault;
+use crate::reach::Reach;
+use crate::reading::{PIECE_LEN, ReadFault};
 use crate::source::Source;
 use std::alloc::{AllocError, Global};
 use std::io;
@@ -18,6 +19,7 @@ use std::marker::Model;
 pub struct Intake<'a> {
     ahead: Ahead<'a>,
     left: usize,
+    reach: Reach,
 }
 
 impl<'a> Model for Intake<'a> {
@@ -39,19 +41,20 @@ impl<'a> Model for Intake<'a> {
 }
 
 impl<'a> Intake<'a> {
-    ghost use Rattle.std.specs.Prelude.{◌≡◌, ◌+◌, ◌<◌, ◌≤◌, ◌↔◌, ◌^◌, [], length, drop, max, IfOk, IfErr, IfSome, OnOk, OnErr, IsTrue, false};
+    ghost use Rattle.std.specs.Prelude.{◌≡◌, ◌+◌, ◌<◌, ◌≤◌, ◌↔◌, ◌^◌, [], length, drop, IfOk, IfErr, IfSome, OnOk, OnErr, IsTrue, false};
     ghost use Rattle.fits_stream.specs.declared.reading.TheConstants.{PIECE_LEN};
     ghost use Rattle.fits_stream.specs.Gave.{Overruns};
     ghost use Rattle.fits_stream.specs.Intake.{supply, IsOver, IsSpent, Passes, Takes, TakingStops};
     ghost use Rattle.fits_stream.specs.Stream.{FailsOnce, IsDry, StaysQuiet};
 
     /// An intake of so many bytes, of which none is ahead yet. It takes room for a piece.
-    pub fn new(alloc: Global, limit: usize) -> Result<Intake<'a>, AllocError>
+    pub fn new(alloc: Global, limit: usize, reach: Reach) -> Result<Intake<'a>, AllocError>
         ensures { IfOk result (λ intake. intake ≡ record { ahead = []; left = limit }) }
     {
         Ok(Intake {
             ahead: Ahead::Read(Piece::new(alloc)?),
             left: limit,
+            reach,
         })
     }
 
@@ -62,6 +65,7 @@ impl<'a> Intake<'a> {
         Intake {
             ahead: Ahead::Lent(bytes),
             left: 0,
+            reach: Reach::Wanted,
         }
     }
 
@@ -79,20 +83,23 @@ impl<'a> Intake<'a> {
         self.ahead.bytes()
     }
 
-    /// Holds so many bytes ahead, or as many as there are. It takes no memory.
+    /// Holds at least so many bytes ahead, or as many as there are. It takes no memory.
     pub fn hold<R: Source>(&mut self, source: &mut R, len: usize) -> io::Result<()>
         requires { len ≤ PIECE_LEN }
         ensures ok { OnOk result (Takes
             (supply (R.state source.old) self.old) (supply (R.state source.new) self.new) []) }
         ensures ends { OnOk result (length self.new.ahead < len
             → IsSpent (supply (R.state source.new) self.new)) }
-        ensures most { OnOk result (length self.new.ahead ≤ max len (length self.old.ahead)) }
         ensures err { OnErr result (FailsOnce (R.state source.old) (R.state source.new)) }
     {
         let held = self.ahead.bytes().len();
         if held < len {
-            let most = (len - held).min(self.left);
-            let count = self.ahead.fill(source, most)?;
+            let least = (len - held).min(self.left);
+            let most = match self.reach {
+                Reach::Wanted => least,
+                Reach::Piece => (PIECE_LEN - held).min(self.left),
+            };
+            let count = self.ahead.fill(source, least, most)?;
             self.left -= count;
         }
         Ok(())

@@ -11,22 +11,24 @@ use std::marker::Model;
 /// Room that a source is read into. Contracts see the bytes that it holds.
 #[derive(Drop)]
 pub(crate) struct Piece {
-    // It begins with the bytes that it holds.
     room: Vec<u8>,
-    held: usize,
+    // Where the bytes that it holds begin and end.
+    begin: usize,
+    end: usize,
 }
 
 impl Model for Piece {
-    ghost use Rattle.std.specs.Prelude.{◌≡◌, ◌≤◌, ℕ, List, take, vec_len};
+    ghost use Rattle.std.specs.Prelude.{◌≡◌, ◌≤◌, ℕ, List, drop, take, vec_len};
     ghost use Rattle.fits_stream.specs.declared.reading.TheConstants.{PIECE_LEN};
 
     ghost Value = { List ℕ };
 
-    ghost view = { λ piece. take piece.held piece.room.items };
+    ghost view = { λ piece. drop piece.begin (take piece.end piece.room.items) };
 
     ghost invariant = { λ piece. record {
       size : vec_len piece.room ≡ PIECE_LEN;
-      held : piece.held ≤ PIECE_LEN;
+      within : piece.end ≤ PIECE_LEN;
+      ordered : piece.begin ≤ piece.end;
     } };
 }
 
@@ -41,14 +43,16 @@ impl Piece {
     {
         Ok(Piece {
             room: buffer_of(alloc, PIECE_LEN)?,
-            held: 0,
+            begin: 0,
+            end: 0,
         })
     }
 
     pub(crate) fn bytes(&self) -> &[u8]
         ensures { result.now ≡ self.now }
     {
-        let (held, _) = self.room.split_at(self.held);
+        let (begun, _) = self.room.split_at(self.end);
+        let (_, held) = begun.split_at(self.begin);
         held
     }
 
@@ -57,24 +61,32 @@ impl Piece {
         requires { len ≤ length self.old }
         ensures { self.new ≡ drop len self.old }
     {
-        drop_front(self.room.as_mut_slice(), len, self.held);
-        self.held -= len;
+        self.begin += len;
     }
 
-    /// Reads so many bytes more, or as many as there are.
-    pub(crate) fn fill<R: Source>(&mut self, source: &mut R, len: usize) -> io::Result<usize>
-        requires { length self.old + len ≤ PIECE_LEN }
+    /// Reads at least so many bytes more, or as many as there are, and no more than `most`.
+    pub(crate) fn fill<R: Source>(
+        &mut self,
+        source: &mut R,
+        least: usize,
+        most: usize,
+    ) -> io::Result<usize>
+        requires ordered { least ≤ most }
+        requires room { length self.old + most ≤ PIECE_LEN }
         ensures ok { OnOk result (ReadsAfter self.old
             (R.state source.old) (R.state source.new) self.new) }
         ensures count { IfOk result (λ count. length self.new ≡ length self.old + count) }
-        ensures within { IfOk result (λ count. count ≤ len) }
-        ensures ends { IfOk result (λ count. count < len
+        ensures within { IfOk result (λ count. count ≤ most) }
+        ensures ends { IfOk result (λ count. count < least
             → IsDry (R.state source.new)) }
         ensures size { OnErr result (length self.new ≡ length self.old) }
         ensures err { OnErr result (FailsOnce (R.state source.old) (R.state source.new)) }
     {
-        let count = fill_after(source, self.room.as_mut_slice(), self.held, len)?;
-        self.held += count;
+        drop_front(self.room.as_mut_slice(), self.begin, self.end);
+        self.end -= self.begin;
+        self.begin = 0;
+        let count = fill_after(source, self.room.as_mut_slice(), self.end, least, most)?;
+        self.end += count;
         Ok(count)
     }
 
@@ -95,7 +107,8 @@ impl Piece {
         ensures none { self.new ≡ [] }
         ensures err { IfErr result (TakingStops (R.state source.old) (R.state source.new)) }
     {
-        self.held = 0;
+        self.begin = 0;
+        self.end = 0;
         take_after(before, source, self.room.as_mut_slice(), len)
     }
 
@@ -109,7 +122,8 @@ impl Piece {
         ensures none { self.new ≡ [] }
         ensures err { OnErr result (FailsOnce (R.state source.old) (R.state source.new)) }
     {
-        self.held = 0;
+        self.begin = 0;
+        self.end = 0;
         source.skip(self.room.as_mut_slice(), len)
     }
 }
@@ -124,41 +138,44 @@ fn drop_front(room: &mut [u8], len: usize, end: usize)
     room.copy_within(len..end, 0);
 }
 
-// Fills so many bytes after the first ones, or as far as the source ends, and says how many.
+// Fills at least so many bytes after the first ones, or as far as the source ends, and says how
+// many; no more than `most`.
 #[tactic(auto, using(crate::proofs::IntakeLemmas::filling_steps))]
 fn fill_after<R: Source>(
     source: &mut R,
     room: &mut [u8],
     held: usize,
-    len: usize,
+    least: usize,
+    most: usize,
 ) -> io::Result<usize>
-    requires { held + len ≤ length room.old }
+    requires ordered { least ≤ most }
+    requires room { held + most ≤ length room.old }
     ensures ok { IfOk result (λ count. ReadsAfter (take held room.old)
         (R.state source.old) (R.state source.new) (take (held + count) room.new)) }
-    ensures within { IfOk result (λ count. count ≤ len) }
-    ensures ends { IfOk result (λ count. count < len → IsDry (R.state source.new)) }
+    ensures within { IfOk result (λ count. count ≤ most) }
+    ensures ends { IfOk result (λ count. count < least → IsDry (R.state source.new)) }
     ensures size { length room.new ≡ length room.old }
     ensures err { OnErr result (FailsOnce (R.state source.old) (R.state source.new)) }
 {
     let (_, rest) = room.split_at_mut(held);
-    let (rest, _) = rest.split_at_mut(len);
-    fill(source, rest)
+    let (rest, _) = rest.split_at_mut(most);
+    fill(source, rest, least)
 }
 
-/// Fills the room by as many reads as it takes, or as far as the source ends, and says how many bytes
-/// it has.
+/// Fills at least so many bytes of the room by as many reads as it takes, or as far as the source
+/// ends, and says how many it has.
 #[tactic(auto, using(crate::proofs::IntakeLemmas::filling_steps))]
-pub fn fill<R: Source>(source: &mut R, room: &mut [u8]) -> io::Result<usize>
+pub fn fill<R: Source>(source: &mut R, room: &mut [u8], least: usize) -> io::Result<usize>
+    requires { least ≤ length room.old }
     ensures ok { IfOk result (λ count. Reads (take count room.new)
         (R.state source.old) (R.state source.new)) }
     ensures within { IfOk result (λ count. count ≤ length room.new) }
-    ensures ends { IfOk result (λ count. count < length room.new
-        → IsDry (R.state source.new)) }
+    ensures ends { IfOk result (λ count. count < least → IsDry (R.state source.new)) }
     ensures size { length room.new ≡ length room.old }
     ensures err { OnErr result (FailsOnce (R.state source.old) (R.state source.new)) }
 {
     let mut count = 0;
-    while count < room.len() {
+    while count < least {
         let (_, rest) = room.split_at_mut(count);
         let n = source.read(rest)?;
         if n == 0 {

@@ -32,7 +32,7 @@ fn a_lent_file_is_read_from_a_place_on(rt: HostRuntime) -> Result<(), Fail> {
         let mut source = StoredSource::new(&file, place, ReadLog::none());
         let mut room = [0; 3];
         same!(rt; source.skip(&mut room, len)?, past, case);
-        let count = fill(&mut source, &mut room)?;
+        let count = fill(&mut source, &mut room, 3)?;
         let (found, _) = room.split_at(count.min(room.len()));
         same!(rt; found, next, case);
     }

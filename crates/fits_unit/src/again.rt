@@ -79,7 +79,7 @@ fn read_next<R: Source>(
     while bytes.len() < len {
         let most = room.len().min(len - bytes.len());
         let (piece, _) = room.split_at_mut(most);
-        let Ok(n) = fill(source, piece) else {
+        let Ok(n) = fill(source, piece, most) else {
             return Err(LoadFault::Failed);
         };
         if n < most {
@@ -152,7 +152,7 @@ fn copy_next<R: Source, W: Sink>(
     while count < len {
         let most = wide.min(len - count);
         let (piece, _) = room.split_at_mut(most);
-        let Ok(n) = fill(source, piece) else {
+        let Ok(n) = fill(source, piece, most) else {
             return Err(CopyFault::Failed);
         };
         if n < most {

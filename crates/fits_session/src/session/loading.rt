@@ -8,7 +8,7 @@ use crate::holder::{Holder, InFile};
 use fits_edit::{Edit, HduEdit};
 use fits_passing::{FILE_LIMIT, ReadFileFault};
 use fits_rules::array_bits;
-use fits_stream::{Intake, ReadLog, Stored, StoredSource};
+use fits_stream::{Intake, Reach, ReadLog, Stored, StoredSource};
 use fits_unit::LoadFault;
 use std::alloc::Global;
 
@@ -43,7 +43,7 @@ impl<'f, F: Stored> Session<InFile<'f, F>> {
         ensures follows { Follows log.old log.new }
     {
         let holder = InFile::new(alloc, file)?;
-        let intake = Intake::new(alloc, FILE_LIMIT as usize)?;
+        let intake = Intake::new(alloc, FILE_LIMIT as usize, Reach::Piece)?;
         let mut source = StoredSource::new(file, 0, log.take_reads());
         let read = read_away(alloc, intake, &mut source);
         log.put_reads(source.into_log());

@@ -1,5 +1,5 @@
 -- An empty body. The borrow is opened, and closed with one byte more.
-use Rattle.std.proofs.Common.{◌+◌, [], ◌∷◌, ◌++◌, refl, w8}
+use Rattle.std.proofs.Common.{[], ◌∷◌, refl, w8}
 use Rattle.std.proofs.raw_atomic.Walks.{proved}
 use mir.Syntax.{named}
 use mir.Val.{vunit}
