@@ -16,7 +16,7 @@ use std::alloc::{AllocError, Global};
 
 /// Does a command, and gives what it prints; or its refusal, which leaves the file and its marks.
 #[tactic(auto, unfolding(crate::specs::Answer::outcome_of, crate::specs::Answer::OutcomeNeedsMemory, crate::specs::Answer::IsReady))]
-pub(crate) fn answer<H: Holder + Drop>(
+pub fn answer<H: Holder + Drop>(
     alloc: Global,
     session: &mut Session<H>,
     command: Command,

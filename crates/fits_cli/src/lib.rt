@@ -24,14 +24,16 @@ mod script;
 mod terms;
 mod value_line;
 
+pub use answer::answer as answer_command;
 pub use asking::{run_ask, run_ask_stored};
-pub use edited::Edited;
+pub use edited::{Edited, end_of};
 pub use editing::{run_edit, run_edit_stored, run_edit_told};
 pub use fits_tell::{
     CardChoice, CardPlace, CardsEnd, End, Fault, FileFault, Level, NamePattern, Reread, Telling,
     run_cards, run_list, run_sum, run_telling, run_verify,
 };
 pub use limits::SCRIPT_LIMIT;
+pub use readying::ready;
 pub use saves::Saves;
 pub use terms::Terms;
 // The lines of a script are named here too.

@@ -1,0 +1,10 @@
+pub mod Flags
+pub mod Given
+pub mod Lines
+pub mod Message
+pub mod Outcome
+pub mod Owned
+pub mod Queries
+pub mod Runs
+pub mod Session
+pub mod Values
