@@ -94,7 +94,8 @@ enum {
     FITSED_ERRORS = 1, /* errors alone are listed: `-e` */
     FITSED_QUIET = 2,  /* nothing but their counts: `-q` */
     FITSED_STRICT = 4, /* warnings count in the status too: `-w` */
-    FITSED_CARDS = 8   /* each line has the card of its problem: `-p` */
+    FITSED_CARDS = 8,  /* each line has the card of its problem: `-p` */
+    FITSED_TABLES = 16 /* what headers of tables say of their columns is judged too: `-t` */
 };
 uint8_t fitsed_verify(const uint8_t *file, size_t file_len, uint8_t flags, fitsed_outcome *outcome);
 
@@ -208,6 +209,22 @@ typedef struct {
 } fitsed_hdu_sums;
 uint8_t fitsed_sums(fitsed_session *session, size_t hdu, fitsed_hdu_sums *sums);
 
+/* A number of 128 bits: high * 2^64 + low. One that has 64 bits with a sign is (int64_t)low, one that has 64 without is low. */
+typedef struct {
+    uint64_t low;
+    int64_t high;
+} fitsed_wide;
+
+/* The statistics of an image of integers. */
+typedef struct {
+    uint64_t defined; /* how many pixels have a value */
+    uint64_t blank;   /* and how many have the number that BLANK says */
+    fitsed_wide least;
+    fitsed_wide greatest; /* of those that have a value; both are 0 where none has */
+    fitsed_wide sum;
+} fitsed_hdu_stats;
+uint8_t fitsed_stats(fitsed_session *session, size_t hdu, fitsed_hdu_stats *stats);
+
 /* Three numbers for each HDU: the bytes at which its header begins, its data begin, and it ends. */
 uint8_t fitsed_offsets(fitsed_session *session, fitsed_numbers *offsets);
 
@@ -216,14 +233,19 @@ uint8_t fitsed_offsets(fitsed_session *session, fitsed_numbers *offsets);
 uint8_t fitsed_problems(fitsed_session *session, fitsed_numbers *problems);
 
 /* The values of a rectangle of pixels in file order, into room for exactly as many. Corners have a place for each axis. At
-   FITSED_WRONG_COUNT the room is of another size, at FITSED_RANGE a value is past INT64_MAX; the room may be written over. */
+   FITSED_WRONG_COUNT the room is of another size, at FITSED_RANGE the room has no number for a value, as past INT64_MAX, or below 0
+   for fitsed_rect_u64; where it isn't done the room may be written over. A row is held beside the room, no more. */
 uint8_t fitsed_rect(fitsed_session *session, size_t hdu, const uint64_t *lo, size_t lo_len, const uint64_t *hi,
                     size_t hi_len, int64_t *room, size_t room_len);
+uint8_t fitsed_rect_u64(fitsed_session *session, size_t hdu, const uint64_t *lo, size_t lo_len, const uint64_t *hi,
+                        size_t hi_len, uint64_t *room, size_t room_len);
 
 /* Gives the pixels of a rectangle these values, in file order, as a line `write` does; but it is no line, and takes any
    number of them. */
 uint8_t fitsed_write(fitsed_session *session, size_t hdu, const uint64_t *lo, size_t lo_len, const uint64_t *hi,
                      size_t hi_len, const int64_t *values, size_t values_len);
+uint8_t fitsed_write_u64(fitsed_session *session, size_t hdu, const uint64_t *lo, size_t lo_len, const uint64_t *hi,
+                         size_t hi_len, const uint64_t *values, size_t values_len);
 
 /* Ends an open session, once. Then it is {0} again. */
 void fitsed_close(fitsed_session *session);

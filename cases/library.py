@@ -18,7 +18,7 @@ else:
 
 # The flags of `edit` and of `verify` that the library has, and their numbers.
 EDITS = {"-a": 1, "-c": 2, "-s": 4}
-REPORTS = {"-e": 1, "-q": 2, "-w": 4, "-p": 8}
+REPORTS = {"-e": 1, "-q": 2, "-w": 4, "-p": 8, "-t": 16}
 TEXTS = {"list": "fitsed_list", "sum": "fitsed_sum", "stat": "fitsed_stat"}
 
 

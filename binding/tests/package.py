@@ -133,8 +133,25 @@ def of_pixels(file):
             yield f"its rectangle", [least, greatest, 1, 100], flat(it.rect(3, (1, 1), (2, 2)))
             it.line("rm 3")
         it.line("new 3 u64 2")
-        it.line("fill 3 1:2 18446744073709551615")
-        yield "past 64 bits with a sign", ("Refused", 12, "Range"), refusal(it.rect, 3, (1,), (2,))
+        it.write(3, (1,), (2,), [5, 2**64 - 1])
+        yield "numbers without a sign", [5, 2**64 - 1], flat(it.rect(3, (1,), (2,)))
+        yield "as an image", [5, 2**64 - 1], flat(it.image(3))
+        yield "their statistics", fitsed.Stats(2, 0, 5, 2**64 - 1, 2**64 + 4), it.stats(3)
+        yield "a number below them", ("Refused", 12, "Range"), refusal(it.write, 3, (1,), (2,), [5, -1])
+        it.line("rm 3")
+        it.line("new 3 i64 2")
+        it.fill(3, (1,), (2,), -(2**63))
+        yield "a sum past 64 bits", fitsed.Stats(2, 0, -(2**63), -(2**63), -(2**64)), it.stats(3)
+        it.set(3, "BLANK", -(2**63))
+        yield "no pixel with a value", fitsed.Stats(0, 2, None, None, 0), it.stats(3)
+        it.line("rm 3")
+        it.line("new 3 i16 3,4,5")
+        it.write(3, (1, 1, 1), (3, 4, 5), range(60))
+        yield "rows of a cube", [x + 3 * y + 12 * z for z in (1, 2, 4) for y in (1, 2) for x in (1, 2)], [
+            pixel for z in (2, 3, 5) for pixel in flat(it.rect(3, (2, 2, z), (3, 3, z)))
+        ]
+        yield "a part of it", [x + 3 * y + 12 * z for z in range(1, 5) for y in range(3) for x in (0, 1)], flat(it.rect(3, (1, 1, 2), (2, 3, 5)))
+        yield "a corner of it", [59], flat(it.rect(3, (3, 4, 5), (3, 4, 5)))
         it.line("rm 3")
         it.write(2, (1, 1), (3, 2), array.array("q", [1, 2, 3, 4, 5, 6]))
         yield "what was written", fitsed.Stats(6, 0, 1, 6, 21), it.stats(2)
@@ -148,6 +165,29 @@ def of_pixels(file):
             it.write(2, (1, 1), (3, 2), numpy.array([[7, 8, 9], [10, 11, 12]], "i2"))
             yield "rows of numpy are rows of the file", [7, 8, 9, 10, 11, 12], flat(it.rect(2, (1, 1), (3, 2)))
             yield "its own type", ("int16", (2, 3)), (str(it.image(2).dtype), it.image(2).shape)
+
+
+def of_astropy(room):
+    """Arrays that astropy wrote, and what it reads of those that are written here."""
+    try:
+        from astropy.io import fits
+    except ImportError:
+        print("no array is read that astropy wrote: it isn't installed", file=sys.stderr)
+        return
+    for kind in ("uint8", "int8", "int16", "uint16", "int32", "uint32", "int64", "uint64"):
+        ends = numpy.iinfo(kind)
+        values = numpy.array([[ends.min, ends.max, 1], [2, 3, 100]], kind)
+        path = room / f"{kind}.fits"
+        fits.PrimaryHDU(values).writeto(path, checksum=True)
+        with fitsed.open(path) as it:
+            yield f"{kind} that astropy wrote", (kind, values.tolist()), (str(it.image(1).dtype), it.image(1).tolist())
+            yield f"the rectangle of {kind}", values.tolist(), it.rect(1, (1, 1), (3, 2)).tolist()
+            yield f"the sums of {kind}", (1, 1), it.sums(1)[1:]
+            it.write(1, (1, 1), (3, 2), values[::-1])
+            it.stamp(1)
+            it.save(path)
+        with fits.open(path, checksum=True) as it:
+            yield f"{kind} for astropy", values[::-1].tolist(), it[0].data.tolist()
 
 
 def of_sums(file):
@@ -225,6 +265,7 @@ def rows(top, examples, room):
     yield from of_values(file)
     yield from of_refusals(file)
     yield from of_pixels(file)
+    yield from of_astropy(room)
     yield from of_sums(file)
     yield from of_saving(file, room)
     yield from of_threads(file)

@@ -38,10 +38,10 @@ def programs(room):
         if compiler == "cc" and shutil.which("gcc"):
             continue
         static = [calls, str(OUT / "libfitsed.a"), "-pthread"]
-        yield f"{compiler}-static", ("run", "lines", "refuse", "threads"), compiled(room, f"{compiler}-static", compiler, "-std=c11", *static, *WRAPPED)
-        yield f"{compiler}-safe", ("run", "lines"), compiled(room, f"{compiler}-safe", compiler, "-std=c11", *SANITIZED, *static, *WRAPPED)
+        yield f"{compiler}-static", ("run", "lines", "calls", "refuse", "threads"), compiled(room, f"{compiler}-static", compiler, "-std=c11", *static, *WRAPPED)
+        yield f"{compiler}-safe", ("run", "lines", "calls"), compiled(room, f"{compiler}-safe", compiler, "-std=c11", *SANITIZED, *static, *WRAPPED)
     shared = [calls, str(OUT / "libfitsed.so.0"), f"-Wl,-rpath,{OUT}", "-pthread", *WRAPPED]
-    yield "cc-shared", ("run", "lines"), compiled(room, "cc-shared", "cc", "-std=c11", *shared)
+    yield "cc-shared", ("run", "lines", "calls"), compiled(room, "cc-shared", "cc", "-std=c11", *shared)
 
 
 def headers(room):

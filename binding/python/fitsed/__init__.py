@@ -270,9 +270,10 @@ def _problems(report: str) -> list[Problem]:
     return found
 
 
-def verify(source: Any, *, errors: bool = False) -> list[Problem]:
-    """What is wrong with a file, as `fitsed verify` reports it; with `errors` its errors alone."""
-    return _problems(_run(_library.fitsed_verify, source, int(errors)).answers)
+def verify(source: Any, *, errors: bool = False, tables: bool = False) -> list[Problem]:
+    """What is wrong with a file, as `fitsed verify` reports it; with `errors` its errors alone, with `tables` also what headers of
+    tables say of their columns."""
+    return _problems(_run(_library.fitsed_verify, source, errors + 16 * tables).answers)
 
 
 def spelled(value: Value | float | complex) -> str:
@@ -297,6 +298,20 @@ def spelled(value: Value | float | complex) -> str:
 
 def _corner(places: Sequence[int]) -> Any:
     return (ctypes.c_uint64 * max(len(places), 1))(*places)
+
+
+def _numbers(values: Any, said: str) -> tuple[Any, bool]:
+    """Values as numbers of 64 bits, and whether these have no sign."""
+    if numpy is not None and isinstance(values, numpy.ndarray):
+        unsigned = values.dtype == numpy.uint64
+        return numpy.ascontiguousarray(values.astype("u8" if unsigned else "i8", casting="safe")).reshape(-1), unsigned
+    values = list(values)
+    for code in ("q", "Q"):
+        try:
+            return array.array(code, values), code == "Q"
+        except OverflowError:
+            pass
+    raise Refused(12, said)
 
 
 class File:
@@ -418,9 +433,12 @@ class File:
         self._call(_library.fitsed_shape, hdu, ctypes.byref(shape), said=f"shape of {hdu}")
         return shape
 
-    def stats(self, hdu: int) -> Stats | None:
+    def stats(self, hdu: int) -> Stats:
         """The statistics of the pixels of an image of integers."""
-        return _stats_of(self.line(f"stat {hdu}").rstrip("\n"))
+        are = _calls.Stats()
+        self._call(_library.fitsed_stats, hdu, ctypes.byref(are), said=f"stat {hdu}")
+        ends = (int(are.least), int(are.greatest)) if are.defined else (None, None)
+        return Stats(are.defined, are.blank, *ends, int(are.sum))
 
     def sums(self, hdu: int) -> Sums:
         """The sum of the data unit of an HDU, and the verdicts on DATASUM and CHECKSUM."""
@@ -434,14 +452,16 @@ class File:
 
     def rect(self, hdu: int, lo: Sequence[int], hi: Sequence[int]) -> Any:
         """The values of a rectangle of pixels, between two corners that are in it. With numpy an array of int64 whose last axis is
-        NAXIS1, else an array('q') in file order. A value past 2**63 - 1 is refused: `image` has those."""
+        NAXIS1, else an array('q') in file order; of pixels of unsigned numbers of 64 bits one of uint64, or an array('Q')."""
+        unsigned = _KINDS[self._shape(hdu).pixels] == "u8"
         sides = [max(last - first + 1, 0) for first, last in zip(lo, hi)]
-        room = array.array("q", bytes(8 * math.prod(sides)))
+        room = array.array("Q" if unsigned else "q", bytes(8 * math.prod(sides)))
         corners = [_corner(lo), _corner(hi)]
         words = [ctypes.addressof(corners[0]), len(lo), ctypes.addressof(corners[1]), len(hi)]
         with _calls.lent(room) as (at, _):
-            self._call(_library.fitsed_rect, hdu, *words, at, len(room), said=f"rect {hdu}")
-        return room if numpy is None else numpy.frombuffer(room, "i8").reshape(sides[::-1])
+            call = _library.fitsed_rect_u64 if unsigned else _library.fitsed_rect
+            self._call(call, hdu, *words, at, len(room), said=f"rect {hdu}")
+        return room if numpy is None else numpy.frombuffer(room, "u8" if unsigned else "i8").reshape(sides[::-1])
 
     def image(self, hdu: int) -> Any:
         """All pixels of an image of integers, with the offset of unsigned integers and signed bytes. With numpy an array of their
@@ -466,17 +486,12 @@ class File:
     def write(self, hdu: int, lo: Sequence[int], hi: Sequence[int], values: Any) -> None:
         """Gives the pixels of a rectangle these values, in file order: numbers, or an array of them, of which numpy's have NAXIS1
         as their last axis."""
-        if numpy is not None and isinstance(values, numpy.ndarray):
-            given: Any = numpy.ascontiguousarray(values.astype("i8", casting="safe")).reshape(-1)
-        else:
-            try:
-                given = array.array("q", values)
-            except OverflowError:
-                raise Refused(12, f"write {hdu}") from None
+        given, unsigned = _numbers(values, f"write {hdu}")
         corners = [_corner(lo), _corner(hi)]
         words = [ctypes.addressof(corners[0]), len(lo), ctypes.addressof(corners[1]), len(hi)]
         with _calls.lent(given) as (at, size):
-            self._call(_library.fitsed_write, hdu, *words, at, size // 8, said=f"write {hdu}")
+            call = _library.fitsed_write_u64 if unsigned else _library.fitsed_write
+            self._call(call, hdu, *words, at, size // 8, said=f"write {hdu}")
 
     def tobytes(self) -> bytes:
         """The present bytes of the file."""

@@ -41,6 +41,19 @@ class Sums(ctypes.Structure):
     _fields_ = [("datasum", ctypes.c_uint32), ("datasum_verdict", ctypes.c_int8), ("checksum_verdict", ctypes.c_int8)]
 
 
+class Wide(ctypes.Structure):
+    """A number of 128 bits, in two parts."""
+
+    _fields_ = [("low", ctypes.c_uint64), ("high", ctypes.c_int64)]
+
+    def __int__(self) -> int:
+        return (self.high << 64) + self.low
+
+
+class Stats(ctypes.Structure):
+    _fields_ = [("defined", ctypes.c_uint64), ("blank", ctypes.c_uint64), ("least", Wide), ("greatest", Wide), ("sum", Wide)]
+
+
 _NAME = "libfitsed.so.0"
 
 
@@ -75,10 +88,13 @@ for _name, _words in {
     "fitsed_value": [_session, _size, ctypes.c_char_p, _out(Value)],
     "fitsed_shape": [_session, _size, _out(Shape)],
     "fitsed_sums": [_session, _size, _out(Sums)],
+    "fitsed_stats": [_session, _size, _out(Stats)],
     "fitsed_offsets": [_session, _out(Bytes)],
     "fitsed_problems": [_session, _out(Bytes)],
     "fitsed_rect": [_session, _size, *_corner, *_corner, _at, _size],
+    "fitsed_rect_u64": [_session, _size, *_corner, *_corner, _at, _size],
     "fitsed_write": [_session, _size, *_corner, *_corner, _at, _size],
+    "fitsed_write_u64": [_session, _size, *_corner, *_corner, _at, _size],
 }.items():
     getattr(library, _name).argtypes = _words
     getattr(library, _name).restype = _u8

@@ -5,7 +5,7 @@ use Rattle.fits_cli.specs.declared.terms.Terms.{Terms}
 use Rattle.fits_tell.specs.declared.level.Level.{Level}
 use Rattle.fits_tell.specs.declared.level.Level.TheVariants.{All, Errors, Quiet}
 use Rattle.fits_tell.specs.declared.telling.Telling.{Telling}
-use Rattle.fits_tell.specs.declared.telling.Telling.TheVariants.{Report}
+use Rattle.fits_tell.specs.declared.telling.Telling.TheVariants.{Report, TableReport}
 
 -- a flag, which is a power of two, is among these
 abbrev pub has : ℕ → ℕ → Bool
@@ -19,6 +19,7 @@ terms_of flags = record { sums = has flags 4; spare = false; saves = Made (has f
 abbrev pub level_of : ℕ → Level
 level_of flags = if has flags 2 then Quiet else if has flags 1 then Errors else All
 
--- a report of these; 4 warnings count, 8 with the cards
+-- a report of these; 4 warnings count, 8 with the cards, 16 with what is wrong with tables
 abbrev pub report_by : ℕ → Telling
-report_by flags = Report (level_of flags) (has flags 4) (has flags 8)
+report_by flags =
+    if has flags 16 then TableReport (level_of flags) (has flags 4) (has flags 8) else Report (level_of flags) (has flags 4) (has flags 8)

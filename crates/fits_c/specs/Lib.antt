@@ -4,7 +4,10 @@ pub mod Lines
 pub mod Message
 pub mod Outcome
 pub mod Owned
+pub mod Pixels
 pub mod Queries
+pub mod Rows
 pub mod Runs
 pub mod Session
 pub mod Values
+pub mod Wide

@@ -14,7 +14,8 @@ use Rattle.fits_passing.specs.declared.problem.Problem.{Problem}
 use Rattle.fits_passing.specs.declared.verdict.Verdict.{Verdict}
 use Rattle.fits_passing.specs.declared.verdict.Verdict.TheVariants.{Right, Missing, Wrong}
 use Rattle.fits_passing.specs.declared.verdicts.Verdicts.{Verdicts}
-use Rattle.fits_session.specs.Query.{datasum_in, kind_in, shape_in, verdicts_in}
+use Rattle.fits_passing.specs.Stats.{Stats}
+use Rattle.fits_session.specs.Query.{datasum_in, kind_in, shape_in, stats_in, verdicts_in}
 use Rattle.fits_session.specs.Session.{file_of}
 use Rattle.fits_making.specs.declared.refusal.Refusal.{Refusal}
 use Rattle.fits_c.specs.Given.{NumbersLieIn}
@@ -23,6 +24,8 @@ use Rattle.fits_c.specs.Session.{QueryIsRefused, Stays}
 use Rattle.fits_c.specs.declared.live.Live.{Live}
 use Rattle.fits_c.specs.declared.numbers.Numbers.{Numbers}
 use Rattle.fits_c.specs.declared.shaped.Shaped.{Shaped}
+use Rattle.fits_c.specs.Wide.{IsWide, IsWideOrZero}
+use Rattle.fits_c.specs.declared.summary.Summary.{Summary}
 use Rattle.fits_c.specs.declared.sums.Sums.{Sums}
 
 -- the number of a class
@@ -90,6 +93,20 @@ abbrev pub SumsComeTo : Live → ℕ → ℕ → Sums → Type 0
 SumsComeTo live h number sums =
     ((number ≡ 0) × (sums_of (file_of live.session) h ≡ Ok sums))
     ⊎ ((why : Refusal) × (number ≡ refusal_number why) × (sums_of (file_of live.session) h ≡ Err why))
+
+-- statistics in numbers of C's
+pub record IsSummaryOf (stats : Stats) (summary : Summary) : Type 0 where
+  pub defined : summary.defined ≡ stats.defined
+  pub blank : summary.blank ≡ stats.blank
+  pub least : IsWideOrZero stats.least summary.least
+  pub greatest : IsWideOrZero stats.greatest summary.greatest
+  pub sum : IsWide stats.sum summary.sum
+
+-- what a query of them does
+abbrev pub StatsComeTo : Live → ℕ → ℕ → Summary → Type 0
+StatsComeTo live h number summary =
+    ((stats : Stats) × (number ≡ 0) × (stats_in (file_of live.session) h ≡ Ok stats) × IsSummaryOf stats summary)
+    ⊎ ((why : Refusal) × (number ≡ refusal_number why) × (stats_in (file_of live.session) h ≡ Err why))
 
 -- 0, or the number of refused memory
 abbrev pub memory_number : {X E : Type 0} → Result X E → ℕ

@@ -1,19 +1,13 @@
 -- What calls of a session come to (own).
-use Rattle.std.specs.Prelude.{◌≡◌, ◌⊎◌, ℕ, ℤ, List, [], length, All, IsSome, Option, None, Some, Ok, Result}
+use Rattle.std.specs.Prelude.{◌≡◌, ◌⊎◌, ℕ, List, [], IsSome, Option, None, Some, Result}
 use Rattle.fits_passing.specs.File.{file_bytes, IsFileOf}
 use Rattle.fits_passing.specs.Opening.{OpenFails}
 use Rattle.fits_passing.specs.declared.open_fault.OpenFault.{OpenFault}
 use Rattle.fits_passing.specs.declared.open_fault.OpenFault.TheVariants.{NotFits, NoEnd, BadShape, ShortData, TooLarge, Memory}
-use Rattle.fits_session.specs.Marked.{marked_after, marked_refusal, unmarked}
-use Rattle.fits_session.specs.Query.{rect_in, QueryFails}
+use Rattle.fits_session.specs.Marked.{unmarked}
+use Rattle.fits_session.specs.Query.{QueryFails}
 use Rattle.fits_session.specs.Session.{file_of, marked_of, SessionState}
-use Rattle.fits_pixels.specs.Pixels.{IsStorable}
-use Rattle.fits_edit.specs.declared.edit.Edit.{Edit}
-use Rattle.fits_edit.specs.declared.edit.Edit.TheVariants.{Hdu}
-use Rattle.fits_edit.specs.declared.hdu_edit.HduEdit.TheVariants.{Pixels}
-use Rattle.fits_edit.specs.declared.paint.Paint.TheVariants.{Write}
 use Rattle.fits_making.specs.declared.refusal.Refusal.{Refusal}
-use Rattle.fits_making.specs.declared.refusal.Refusal.TheVariants as refusal
 use Rattle.fits_script.specs.Line.{reading_of}
 use Rattle.fits_c.specs.Given.{LieIn}
 use Rattle.fits_c.specs.Lines.{refusal_number, LineComesTo}
@@ -81,27 +75,3 @@ pub record SaveComesTo (old : Live) (number : ℕ) (saved : Bytes) (new : Live) 
 -- a query is refused for this number
 abbrev pub QueryIsRefused : {X : Type 0} → Result X Refusal → ℕ → Type 0
 QueryIsRefused answer number = (why : Refusal) × (number ≡ refusal_number why) × QueryFails answer why
-
--- values fill room of the caller's, or they don't: it is of another size, or one of them has more than 64 bits
-abbrev pub FillsRoom : List ℤ → ℕ → List ℤ → Type 0
-FillsRoom values number room =
-    ((number ≡ 0) × (room ≡ values))
-    ⊎ (((number ≡ 11) × (length values ≡ length room → ⊥)) ⊎ ((number ≡ 12) × (All (IsStorable 8) values → ⊥)))
-
--- the values of a rectangle of HDU h fill the room or don't, or the query is refused
-pub record RectComesTo (old : Live) (h : ℕ) (lo hi : List ℕ) (number : ℕ) (room : List ℤ) (new : Live) : Type 0 where
-  pub stays : Stays old new
-  pub given : ((values : List ℤ) × (rect_in (file_of old.session) h lo hi ≡ Ok values) × FillsRoom values number room)
-      ⊎ QueryIsRefused (rect_in (file_of old.session) h lo hi) number
-
--- the values of a rectangle of HDU h are written
-abbrev pub write_edit : ℕ → List ℕ → List ℕ → List ℤ → Edit
-write_edit h lo hi values = Hdu h (Pixels lo hi (Write values))
-
--- they are, and the file is as that edit leaves it; or they aren't, by the first test that fails or since memory was refused, and it stays
-abbrev pub WriteComesTo : Live → ℕ → List ℕ → List ℕ → List ℤ → ℕ → Live → Type 0
-WriteComesTo old h lo hi values number new =
-    ((number ≡ 0) × (marked_refusal (marked_of old.session) (write_edit h lo hi values) ≡ None)
-    × (marked_of new.session ≡ marked_after (marked_of old.session) (write_edit h lo hi values)))
-    ⊎ ((why : Refusal) × (number ≡ refusal_number why) × Stays old new
-    × ((marked_refusal (marked_of old.session) (write_edit h lo hi values) ≡ Some why) ⊎ (why ≡ refusal.Memory)))

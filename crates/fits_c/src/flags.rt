@@ -19,6 +19,8 @@ const QUIET: u8 = 2;
 const STRICT: u8 = 4;
 /// Its lines have the cards of their problems.
 const CARDS: u8 = 8;
+/// It has what is wrong with tables too.
+const TABLES: u8 = 16;
 
 /// The terms of a run that saves nothing.
 pub const ASKING: Terms = Terms {
@@ -50,10 +52,21 @@ pub fn terms_of(flags: u8) -> Terms
 pub fn report_by(flags: u8) -> Telling
     ensures { result ≡ report_by flags }
 {
-    Telling::Report {
-        level: level_of(flags),
-        strict: has(flags, STRICT),
-        cards: has(flags, CARDS),
+    let level = level_of(flags);
+    let strict = has(flags, STRICT);
+    let cards = has(flags, CARDS);
+    if has(flags, TABLES) {
+        Telling::TableReport {
+            level,
+            strict,
+            cards,
+        }
+    } else {
+        Telling::Report {
+            level,
+            strict,
+            cards,
+        }
     }
 }
 

@@ -1,15 +1,17 @@
 //! What an HDU is and where it lies, its sums, and the problems of a file, in numbers.
 ghost use Rattle.std.specs.Prelude.{◌≡◌, IfOk};
 ghost use Rattle.std.specs.List.{flat_map};
-ghost use Rattle.fits_c.specs.Queries.{class_number, kind_number, memory_number, offset_numbers, problem_numbers, verdict_number};
+ghost use Rattle.fits_c.specs.Queries.{class_number, kind_number, memory_number, offset_numbers, problem_numbers, verdict_number, IsSummaryOf};
 
 use crate::live::{Live, NO_MEMORY};
 use crate::numbers::Numbers;
 use crate::shaped::Shaped;
+use crate::summary::Summary;
 use crate::sums::Sums;
 use crate::undone::refusal_number;
+use crate::wide::{parts_of, parts_or_zero};
 use fits_image::Kind;
-use fits_passing::Verdict;
+use fits_passing::{Stats, Verdict};
 use fits_rules::Class;
 use fits_session::{HduOffsets, Problem, Refusal};
 use std::alloc::{AllocError, Global};
@@ -21,7 +23,7 @@ impl Live {
     ghost use Rattle.fits_passing.specs.Report.{report_of};
     ghost use Rattle.fits_session.specs.Query.{shape_in, QueryFails};
     ghost use Rattle.fits_session.specs.Session.{file_of};
-    ghost use Rattle.fits_c.specs.Queries.{offset_numbers, problem_numbers, sums_of, IsShapeOf, OffsetsComeTo, ProblemsComeTo, ShapeComesTo, SumsComeTo};
+    ghost use Rattle.fits_c.specs.Queries.{offset_numbers, problem_numbers, sums_of, IsShapeOf, OffsetsComeTo, ProblemsComeTo, ShapeComesTo, StatsComeTo, SumsComeTo};
     ghost use Rattle.fits_c.specs.Session.{Stays};
 
     /// Says what HDU h is, and gives its axes.
@@ -82,6 +84,19 @@ impl Live {
         })
     }
 
+    /// Gives the statistics of the pixels of HDU h.
+    pub fn stats(&self, h: usize, summary: &mut Summary) -> u8
+        ensures { StatsComeTo self.now h result summary.new }
+    {
+        match self.session.stats(h) {
+            Ok(stats) => {
+                *summary = summary_of(&stats);
+                0
+            }
+            Err(why) => refusal_number(why),
+        }
+    }
+
     /// Gives where each HDU begins, its data begin, and it ends.
     pub fn offsets(&mut self, alloc: Global, offsets: &mut Numbers) -> u8
         ensures { OffsetsComeTo self.old result offsets.new self.new }
@@ -130,6 +145,19 @@ fn number_of(done: Result<(), AllocError>) -> u8
     match done {
         Ok(()) => 0,
         Err(_) => NO_MEMORY,
+    }
+}
+
+// Statistics in numbers of C's.
+fn summary_of(stats: &Stats) -> Summary
+    ensures { IsSummaryOf stats.now result }
+{
+    Summary {
+        defined: stats.defined,
+        blank: stats.blank,
+        least: parts_or_zero(stats.least),
+        greatest: parts_or_zero(stats.greatest),
+        sum: parts_of(stats.sum),
     }
 }
 

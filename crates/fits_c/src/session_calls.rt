@@ -1,8 +1,8 @@
 //! A session that lives across calls, for callers in C.
 ghost use Rattle.std.specs.Prelude.{◌≡◌, IfOk, IfErr, None};
 ghost use Rattle.fits_passing.specs.Opening.{OpenFails};
-ghost use Rattle.fits_c.specs.Queries.{OffsetsComeTo, ProblemsComeTo, ShapeComesTo, SumsComeTo};
-ghost use Rattle.fits_c.specs.Session.{opening_number, opening_place, Calls, IsOpen, IsSessionOf, LineIsAnswered, OpenComesTo, RectComesTo, SaveComesTo, Stays, WriteComesTo};
+ghost use Rattle.fits_c.specs.Queries.{OffsetsComeTo, ProblemsComeTo, ShapeComesTo, StatsComeTo, SumsComeTo};
+ghost use Rattle.fits_c.specs.Session.{opening_number, opening_place, Calls, IsOpen, IsSessionOf, LineIsAnswered, OpenComesTo, SaveComesTo, Stays};
 ghost use Rattle.fits_c.specs.Values.{ValueComesTo};
 ghost use Rattle.fits_c.specs.declared.live.Live.{Live};
 
@@ -12,6 +12,7 @@ use crate::numbers::Numbers;
 use crate::place::Place;
 use crate::session_handle::SessionHandle;
 use crate::shaped::Shaped;
+use crate::summary::Summary;
 use crate::sums::Sums;
 use crate::valued::Valued;
 use fits_session::OpenFault;
@@ -121,6 +122,23 @@ pub extern "C" fn fitsed_sums(
     number
 }
 
+/// Gives the statistics of the pixels of an HDU.
+#[unsafe(no_mangle)]
+pub extern "C" fn fitsed_stats(
+    alloc: Global,
+    session: &mut SessionHandle,
+    hdu: usize,
+    summary: &mut Summary,
+) -> u8
+    requires { IsOpen session.old }
+    ensures { Calls (λ (old new : Live). Stays old new × StatsComeTo old hdu result summary.new) session.old session.new }
+{
+    let live = session.take(alloc);
+    let number = live.stats(hdu, summary);
+    *session = SessionHandle::of(live);
+    number
+}
+
 /// Gives where each HDU begins, its data begin, and it ends.
 #[unsafe(no_mangle)]
 pub extern "C" fn fitsed_offsets(
@@ -149,44 +167,6 @@ pub extern "C" fn fitsed_problems(
 {
     let mut live = session.take(alloc);
     let number = live.problems(alloc, problems);
-    *session = SessionHandle::of(live);
-    number
-}
-
-/// Puts the values of a rectangle of pixels into room of the caller's.
-#[unsafe(no_mangle)]
-pub extern "C" fn fitsed_rect(
-    alloc: Global,
-    session: &mut SessionHandle,
-    hdu: usize,
-    lo: &[u64],
-    hi: &[u64],
-    room: &mut [i64],
-) -> u8
-    requires { IsOpen session.old }
-    ensures { Calls (λ (old new : Live). RectComesTo old hdu lo.now hi.now result room.new new) session.old session.new }
-{
-    let mut live = session.take(alloc);
-    let number = live.rect(hdu, lo, hi, room);
-    *session = SessionHandle::of(live);
-    number
-}
-
-/// Writes the values of a rectangle of pixels.
-#[unsafe(no_mangle)]
-pub extern "C" fn fitsed_write(
-    alloc: Global,
-    session: &mut SessionHandle,
-    hdu: usize,
-    lo: &[u64],
-    hi: &[u64],
-    values: &[i64],
-) -> u8
-    requires { IsOpen session.old }
-    ensures { Calls (λ (old new : Live). WriteComesTo old hdu lo.now hi.now values.now result new) session.old session.new }
-{
-    let mut live = session.take(alloc);
-    let number = live.write(alloc, hdu, lo, hi, values);
     *session = SessionHandle::of(live);
     number
 }

@@ -1,4 +1,4 @@
-use Rattle.fits_c.proofs.session_calls.fitsed_rect.Goals as goal
+use Rattle.fits_c.proofs.pixel_calls.fitsed_rect.Goals as goal
 
 pub returns : goal.returns
 returns c = (_, c.take-live.ensures.given, c.rect-number.new.self, c.of.ensures, rw c.deref_mut.ensures.value at c.rect-number.ensures)
