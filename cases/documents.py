@@ -16,6 +16,9 @@ if library.fitsed:
     DOCUMENTS.append("docs/LIBRARY.md")
 MANUAL = "man/fitsed.1"
 
+# What goes on without it, where it isn't built.
+OF_LIBRARY = re.compile(r"^## Files in memory$.*?(?=^## )", re.S | re.M)
+
 # What stands for a character in a text of the manual page.
 ROFF = {r"\(aq": "'", r"\(dq": '"', r"\-": "-", r"\e": "\\", r"\&": ""}
 
@@ -23,6 +26,7 @@ ROFF = {r"\(aq": "'", r"\(dq": '"', r"\-": "-", r"\e": "\\", r"\&": ""}
 def cases():
     for name in DOCUMENTS:
         text = (TOP / name).read_text(encoding="utf-8")
+        text = text if library.fitsed else OF_LIBRARY.sub("", text)
         yield name, typed, "".join(re.findall(r"^```console\n(\$ .*?)^```$", text, re.S | re.M))
     yield MANUAL, typed, examples((TOP / MANUAL).read_text(encoding="utf-8"))
 

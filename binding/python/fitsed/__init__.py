@@ -303,8 +303,10 @@ def _corner(places: Sequence[int]) -> Any:
 def _numbers(values: Any, said: str) -> tuple[Any, bool]:
     """Values as numbers of 64 bits, and whether these have no sign."""
     if numpy is not None and isinstance(values, numpy.ndarray):
-        unsigned = values.dtype == numpy.uint64
+        unsigned = values.dtype.kind == "u" and values.dtype.itemsize == 8
         return numpy.ascontiguousarray(values.astype("u8" if unsigned else "i8", casting="safe")).reshape(-1), unsigned
+    if isinstance(values, array.array) and values.typecode in "qQ":
+        return values, values.typecode == "Q"
     values = list(values)
     for code in ("q", "Q"):
         try:
