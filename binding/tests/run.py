@@ -1,6 +1,7 @@
 #!/usr/bin/env python3
 """Runs the library over the examples of the repository from C, and the package from Python. What a script comes to is what its
-example says. Under sanitizers and by a second compiler where they are installed. The last line is 'N passed, M failed'."""
+example says. Under sanitizers and by a second compiler where they are installed. With the word `python` the package alone. The last
+line is 'N passed, M failed'."""
 import os
 import pathlib
 import shutil
@@ -83,15 +84,16 @@ def in_c(room):
             yield f"{folder.name}, {mode} of {name}", (*wanted, ""), (*came, ran.stdout + ran.stderr)
 
 
-def main():
+def main(words):
     passed, faults = 0, []
     with tempfile.TemporaryDirectory() as folder:
         room = pathlib.Path(folder)
 
         def rows():
-            yield from headers(room)
-            yield from exported()
-            yield from in_c(room)
+            if not words:
+                yield from headers(room)
+                yield from exported()
+                yield from in_c(room)
             import package  # it wants the library
 
             yield from package.rows(TOP, list(examples()), room)
@@ -106,4 +108,4 @@ def main():
 
 
 if __name__ == "__main__":
-    sys.exit(main())
+    sys.exit(main(sys.argv[1:]))
