@@ -1,9 +1,9 @@
 -- The corners of a rectangle, axis by axis.
-use Rattle.std.proofs.Common.{◌≡◌, ◌<◌, ◌≤◌, ◌↔◌, ℕ, zero, suc, ◌+◌, ◌-◌, ◌*◌, ◌/◌, ◌%◌, List, [], ◌∷◌, ◌++◌, length, get_or, drop, refl, arith, sym, ◌∙◌, ap}
+use Rattle.std.proofs.Common.{◌≡◌, ◌<◌, ◌≤◌, ◌↔◌, ℕ, zero, suc, ◌+◌, ◌-◌, ◌*◌, ◌/◌, ◌%◌, List, [], ◌∷◌, length, get_or, drop, refl, arith, sym, ◌∙◌, ap}
 use Rattle.std.proofs.Math.Nat.{mul-div_cancel_left, div-add-mod, mul-mod_left}
-use Rattle.std.proofs.lemmas.List.{drop_more, append_assoc}
+use Rattle.std.proofs.lemmas.List.{drop_more}
 use Rattle.fits_plane.specs.Rectangle.{rectangle_size, IsRectangle}
-use Rattle.fits_c.specs.Rows.{row_corner, row_place, AreCorners}
+use Rattle.fits_c.specs.Rows.{row_place, AreCorners}
 
 -- the corners in an axis, and in those that follow
 pub record Axis (lo hi : List ℕ) (i : ℕ) : Type 0 where

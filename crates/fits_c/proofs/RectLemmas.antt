@@ -1,6 +1,6 @@
 -- A rectangle of pixels that is read row by row into room of C's.
-use Rattle.std.proofs.Common.{◌≡◌, ◌<◌, ◌≤◌, ◌⊎◌, ℕ, zero, suc, ◌+◌, ◌-◌, ◌*◌, ◌/◌, Bool, true, false, List, [], ◌∷◌, ◌++◌, length, map, take, All, refl, arith, sym, subst, ◌∙◌, ap, ℤ, Option, None, Some, Result, Ok, Err, inl, inr}
-use Rattle.std.specs.Prelude.{ok_or, IsOk, IsTrue, if◌then◌else◌}
+use Rattle.std.proofs.Common.{◌≡◌, ◌<◌, ◌≤◌, ◌⊎◌, ℕ, zero, suc, ◌+◌, ◌-◌, ◌*◌, ◌/◌, Bool, true, false, List, [], ◌∷◌, ◌++◌, length, map, All, refl, arith, sym, subst, ◌∙◌, ap, ℤ, Option, None, Some, Result, Ok, Err, inl, inr}
+use Rattle.std.specs.Prelude.{ok_or, if◌then◌else◌}
 use Rattle.std.specs.List.{range_with_len}
 use Rattle.std.proofs.Math.Nat.{mul-le-mul_left}
 use Rattle.std.proofs.lemmas.List.{append_assoc, map-append}
@@ -14,7 +14,6 @@ use Rattle.fits_rules.specs.declared.array_shape.Shape.{Shape}
 use Rattle.fits_image.specs.Kind.{kind_in as hdu_kind, offset_of, width_of}
 use Rattle.fits_image.specs.declared.kind.Kind.{Kind}
 use Rattle.fits_hdu.specs.Pixels.{rect_by, rect_of}
-use Rattle.fits_hdu.specs.declared.pixel_fault.PixelFault.{PixelFault}
 use Rattle.fits_hdu.specs.declared.pixel_fault.PixelFault.TheVariants as pixel
 use Rattle.fits_passing.specs.File.{is_primary_hdu, FileParts}
 use Rattle.fits_passing.specs.Hdu.{HduParts}

@@ -1,9 +1,9 @@
 -- A rectangle that is read row by row, each a rectangle.
-use Rattle.std.proofs.Common.{◌≡◌, ◌<◌, ◌≤◌, ℕ, zero, suc, ◌+◌, ◌-◌, ◌*◌, ◌/◌, ◌%◌, List, [], ◌∷◌, ◌++◌, length, map, refl, arith, sym, ◌∙◌, ap, ℤ}
+use Rattle.std.proofs.Common.{◌≡◌, ◌<◌, ℕ, zero, suc, ◌+◌, ◌-◌, ◌*◌, ◌/◌, ◌%◌, List, [], ◌∷◌, ◌++◌, map, refl, arith, sym, ◌∙◌, ap, ℤ}
 use Rattle.std.specs.List.{range_with_len}
 use Rattle.std.proofs.Math.Nat.{mod-lt, div-lt_iff_lt-mul}
 use Rattle.std.proofs.lemmas.List.{map-append}
-use Rattle.fits_plane.specs.Rectangle.{product, place, rectangle_size, row_size, row_count, value_at, rectangle_values, IsRectangle}
+use Rattle.fits_plane.specs.Rectangle.{place, rectangle_size, row_size, row_count, value_at, rectangle_values, IsRectangle}
 use Rattle.fits_c.specs.Rows.{row_corner, row_place}
 use Rattle.fits_plane.proofs.BlockLemmas.{range-append}
 use Rattle.fits_plane.proofs.PlaceLemmas.{place-in_row}

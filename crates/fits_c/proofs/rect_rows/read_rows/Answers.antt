@@ -1,4 +1,4 @@
-use Rattle.std.proofs.Common.{◌≡◌, ◌<◌, ◌≤◌, ◌+◌, ◌*◌, ◌/◌, ◌++◌, ◌∙◌, ℕ, List, length, map, take, refl, ap, sym, subst, arith, All}
+use Rattle.std.proofs.Common.{◌≡◌, ◌<◌, ◌≤◌, ◌+◌, ◌*◌, ◌/◌, ◌++◌, ◌∙◌, ℕ, length, map, take, refl, ap, sym, subst, arith, All}
 use Rattle.std.proofs.lemmas.List.{take_all}
 use Rattle.fits_plane.specs.Rectangle.{rectangle_size, row_count, row_size}
 use Rattle.fits_plane.proofs.RowLemmas.{rectangle_size-rows, row_lies}

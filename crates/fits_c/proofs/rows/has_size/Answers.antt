@@ -1,4 +1,4 @@
-use Rattle.std.proofs.Common.{◌≡◌, ◌+◌, ◌-◌, ◌*◌, ◌∙◌, ℕ, get_or, drop, arith, ap, sym}
+use Rattle.std.proofs.Common.{◌+◌, ◌*◌, ◌∙◌, ℕ, drop, ap, sym}
 use Rattle.fits_plane.specs.Rectangle.{rectangle_size}
 use Rattle.fits_c.proofs.AxisLemmas.{axis_at, size_more, size_none, size_step}
 use Rattle.fits_c.proofs.rows.has_size.Goals as goal
