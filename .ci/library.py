@@ -1,26 +1,48 @@
 #!/usr/bin/env python3
 """Builds the library over the crates as `rt ci` left them, and runs its tests from C and from Python (binding/tests/run.py).
 
-`rt lib` would prove each crate below once more, since the libraries of `rt ci` have no stamp. So the toolchain is called here as the
-tool that tries refused bodies calls it: it proves fits_c alone, and builds. The last line is 'N passed, M failed'."""
+    .ci/library.py [--anew]
+
+`rt ci` proves a static library, and builds none. `rt lib` would prove each crate below once more, since the libraries of `rt ci` have
+no stamp; so the toolchain is called here as the tool that tries refused bodies calls it: it proves fits_c alone, and builds. What was
+built is kept on this machine, by the sum of all that it rests on; --anew builds it in any case. The last line is 'N passed, M failed'."""
+import hashlib
 import os
 import re
+import shutil
 import subprocess
 import sys
 
-from edits import KIT, TOP, rtlib
+from edits import KIT, TOP, rtlib, text_of
+
+KEPT = os.path.join(os.environ.get("XDG_CACHE_HOME", os.path.expanduser("~/.cache")), "fitsed-library")
 
 
-def built():
+def kept_of(crate):
+    """Where the library is kept that these sources make."""
+    base = [open(it, encoding="utf-8").read() for it in (__file__, f"{KIT}/KIT-ID")]
+    sums = "\0".join([*base, *(text_of(it) for it in [*crate.below(), crate])])
+    return f"{KEPT}/{hashlib.sha256(sums.encode()).hexdigest()}.a"
+
+
+def built(anew):
     """What keeps the library from being built, or nothing."""
     crate = next(it for it in rtlib.crates_below(TOP) if it.name == "fits_c")
-    os.makedirs(f"{crate.folder}/out", exist_ok=True)
-    words = crate.words(["--jobs", "2"], keeps=False)
-    words += ["--toolchain", f"{KIT}/toolchain", "--backend", "llvm", "--incremental", "out/incremental", "-o", "out/libfits_c.a"]
+    made, kept = f"{crate.folder}/out/libfits_c.a", kept_of(crate)
     how = {"cwd": crate.folder, "stdin": subprocess.DEVNULL, "capture_output": True, "text": True, "errors": "replace", "check": False}
-    ran = subprocess.run([*rtlib.guarded(), rtlib.RATTLE, "build", *words], **how)
-    if ran.returncode == 0:
-        ran = subprocess.run(["sh", f"{TOP}/binding/link.sh"], **how)
+    for folder in (os.path.dirname(made), KEPT):
+        os.makedirs(folder, exist_ok=True)
+    if os.path.exists(kept) and not anew:
+        shutil.copy(kept, made)
+    else:
+        words = crate.words(["--jobs", "2"], keeps=False)
+        words += ["--toolchain", f"{KIT}/toolchain", "--backend", "llvm", "--incremental", "out/incremental", "-o", "out/libfits_c.a"]
+        ran = subprocess.run([*rtlib.guarded(), rtlib.RATTLE, "build", *words], **how)
+        if ran.returncode:
+            return (ran.stdout + ran.stderr)[-2000:]
+        shutil.copy(made, f"{kept}.new")
+        os.replace(f"{kept}.new", kept)
+    ran = subprocess.run(["sh", f"{TOP}/binding/link.sh"], **how)
     return ran.returncode and (ran.stdout + ran.stderr)[-2000:]
 
 
@@ -31,8 +53,8 @@ def pythons():
     return [[sys.executable], *([[other, "python"]] if not has(sys.executable) and os.path.exists(other) and has(other) else [])]
 
 
-def main():
-    fault = built()
+def main(words):
+    fault = built("--anew" in words)
     if fault:
         print(f"{fault}\nFAILED: library: it isn't built\n0 passed, 1 failed")
         return 1
@@ -48,4 +70,4 @@ def main():
 
 
 if __name__ == "__main__":
-    sys.exit(main())
+    sys.exit(main(sys.argv[1:]))

@@ -43,7 +43,7 @@ part stored sh .ci/stored.sh &
 stored=$!
 # The rows of cases/ are run by the library too, and it has packages.
 {
-    part library python3 -B .ci/library.py
+    part library python3 -B .ci/library.py ${ANEW:+--anew}
     part package python3 -B .ci/package.py &
     part cases python3 -B cases/run.py
     wait
