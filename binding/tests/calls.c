@@ -137,18 +137,16 @@ static void note_numbers(result *it, fitsed_numbers numbers)
 /* What is asked of one HDU, and its pixels, which are written as they are. */
 static size_t by_hdu(result *it, fitsed_session *session, size_t hdu)
 {
-    static const uint64_t ones[999] = {1, 1, 1, 1, 1, 1, 1, 1, 1, 1};
+    static const uint64_t ones[10] = {1, 1, 1, 1, 1, 1, 1, 1, 1, 1};
+    static int64_t signs[PIXELS + 1];
+    static uint64_t plain[PIXELS];
     fitsed_keyword_value value;
     fitsed_hdu_shape shape;
     fitsed_hdu_sums sums;
     fitsed_hdu_stats stats;
     uint64_t hi[10];
-    int64_t *signs = malloc(PIXELS * sizeof *signs);
-    uint64_t *plain = malloc(PIXELS * sizeof *plain);
     size_t again = 0, pixels = 1;
     int number, asked;
-    if (!signs || !plain)
-        exit(9);
     CALL(number, fitsed_value(session, hdu, (const uint8_t *)"EXPTIME ", &value));
     if (number == 0) {
         note_bytes(it, value.text);
@@ -183,8 +181,6 @@ static size_t by_hdu(result *it, fitsed_session *session, size_t hdu)
                     exit(7);
         }
     }
-    free(signs);
-    free(plain);
     return again;
 }
 
