@@ -535,6 +535,9 @@ def beside_cfitsio(program, path):
         shown = "".join(byte if " " <= byte <= "~" else "?" for byte in card).rstrip(" ")
         if shown or int(place) < int(last.get(hdu, 0)):
             read[hdu, place] = shown
+    # CFITSIO stops at a table that it doesn't open
+    if {hdu for hdu, _ in read} < {hdu for hdu, _ in cards}:
+        return
     blank = {(words[0], words[1]): "" for words in ours if len(words) == 2 and int(words[1]) < int(last.get(words[0], 0))}
     if cards | blank != read:
         yield f"CFITSIO reads {sorted(read.items() ^ (cards | blank).items())!r:.300}"
