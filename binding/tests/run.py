@@ -32,6 +32,13 @@ def compiled(room, name, compiler, *words):
     return ran.returncode, ran.stdout + ran.stderr
 
 
+def sanitizes(room, compiler):
+    """Whether a compiler has its sanitizers' libraries."""
+    (room / "none.c").write_text("int main(void)\n{\n    return 0;\n}\n")
+    built = subprocess.run([compiler, *SANITIZED, "-o", room / "none", room / "none.c"], capture_output=True, check=False)
+    return built.returncode == 0 and subprocess.run([room / "none"], capture_output=True, check=False).returncode == 0
+
+
 def programs(room):
     """The modes of each program that is built, and whether it is."""
     calls = str(HERE / "calls.c")
@@ -40,7 +47,8 @@ def programs(room):
             continue
         static = [calls, str(OUT / "libfitsed.a"), "-pthread"]
         yield f"{compiler}-static", ("run", "lines", "calls", "refuse", "threads"), compiled(room, f"{compiler}-static", compiler, "-std=c11", *static, *WRAPPED)
-        yield f"{compiler}-safe", ("run", "lines", "calls"), compiled(room, f"{compiler}-safe", compiler, "-std=c11", *SANITIZED, *static, *WRAPPED)
+        if sanitizes(room, compiler):
+            yield f"{compiler}-safe", ("run", "lines", "calls"), compiled(room, f"{compiler}-safe", compiler, "-std=c11", *SANITIZED, *static, *WRAPPED)
     shared = [calls, str(OUT / "libfitsed.so.0"), f"-Wl,-rpath,{OUT}", "-pthread", *WRAPPED]
     yield "cc-shared", ("run", "lines", "calls"), compiled(room, "cc-shared", "cc", "-std=c11", *shared)
 
