@@ -17,6 +17,7 @@ import card_edits
 import codes
 import commands
 import documents
+import extended
 import faults
 import hdu_edits
 import keeping
@@ -58,6 +59,7 @@ TABLES = [
     codes,
     tables,
     mending,
+    extended,
     faults,
     one_file,
     again,
