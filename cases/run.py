@@ -29,6 +29,7 @@ import mending
 import odd_places
 import one_file
 import openings
+import pairs
 import pixel_edits
 import planes
 import program
@@ -54,6 +55,7 @@ TABLES = [
     listings,
     sums,
     commands,
+    pairs,
     reports,
     codes,
     tables,

@@ -1,15 +1,17 @@
 //! The words that the command line takes, as clap reads them.
 use crate::form::Form;
 use crate::help::{
-    ABOUT, ASK, CARDS, EDIT, EDIT_USAGE, FOUND, KEYED, KEYS, LINES, LIST, LISTED, SHOWN, STAT,
-    STATED, STATUSES, SUM, SUMMED, VERIFY, VERSION, WHY_FILES, WHY_LINES,
+    ABOUT, ASK, CARDS, COMPARED, DIFF, EDIT, EDIT_USAGE, FOUND, KEYED, KEYS, LINES, LIST, LISTED,
+    SHOWN, STAT, STATED, STATUSES, SUM, SUMMED, VERIFY, VERSION, WHY_FILES, WHY_LINES,
 };
 use crate::word::Word;
 use clap::Command;
 use std::alloc::{AllocError, Global};
 
 // The commands, as the help lists them.
-const FORMS: &[Form] = &[EDITS, ASKS, SHOWS, TABLES, LISTS, SUMS, STATES, VERIFIES];
+const FORMS: &[Form] = &[
+    EDITS, ASKS, SHOWS, TABLES, COMPARES, LISTS, SUMS, STATES, VERIFIES,
+];
 
 const EDITS: Form = Form {
     name: "edit",
@@ -100,6 +102,14 @@ const TABLES: Form = Form {
         Word::OneHdu,
         Word::Keyword,
     ],
+};
+
+const COMPARES: Form = Form {
+    name: "diff",
+    about: DIFF,
+    help: COMPARED,
+    usage: None,
+    words: &[Word::Verbose(WHY_FILES), Word::First, Word::Second],
 };
 
 const LISTS: Form = Form {

@@ -31,6 +31,8 @@ pub(crate) const CARDS: &str = "Prints the cards of headers";
 
 pub(crate) const KEYS: &str = "Prints the values of keywords, a line for each file";
 
+pub(crate) const DIFF: &str = "Prints what differs in two files";
+
 pub(crate) const STATUSES: &str = "Exit status:
   0  done
   1  a line of the script was refused or bad; verify found an error, or edit -c more than there
@@ -43,6 +45,7 @@ Examples:
   fitsed cards -k DATE-OBS *.fits
   fitsed ask -e 'get 1 EXPTIME' *.fits
   fitsed verify -l *.fits
+  fitsed diff a.fits b.fits
   fitsed edit -e \"set 1 OBSERVER 'N. Night'\" -e 'stamp 1' in.fits out.fits
 
 fitsed(1) has the lines of a script and the codes of a report.";
@@ -109,6 +112,17 @@ Exit status:
   0  done
   2  a wrong command line, or a file that doesn't open
   3  the file can't be read, the lines can't be written, or memory ran out";
+
+pub(crate) const COMPARED: &str =
+    "Each line: - HDU PLACE CARD of A, or + HDU PLACE CARD of B; or how HDUs differ otherwise
+  Cards are matched in their order: those that both headers have in the same order have no line.
+  Bytes of data count from 0, and the fill counts as data.
+
+Exit status:
+  0  the files are the same, byte for byte
+  1  they aren't
+  2  a wrong command line, or a file that doesn't open
+  3  a file can't be read, the lines can't be written, or memory ran out";
 
 pub(crate) const LINES: &str = "Lines of the script, words separated by one space:
   ins H P CARD         insert a card at place P of HDU H

@@ -2,6 +2,7 @@
 #![tactic(auto)]
 
 mod arguments;
+mod comparing;
 mod detail;
 mod editing;
 mod explaining;
@@ -26,6 +27,7 @@ mod wrong_sums;
 use arguments::command;
 use clap::error::ErrorKind;
 use clap::{ArgMatches, Error};
+use comparing::compare;
 use detail::Detail;
 use editing::{edit, edit_in_place};
 use fits_cli::Fault;
@@ -116,6 +118,7 @@ fn status_of<R: Files<File = File> + Input + Print + Eprint + AllocGlobal + Clon
         Task::Ask { script, files } => ask(rt, &script, files, detail),
         Task::Show { choice, files } => each(rt, Job::Show(&choice), files, detail),
         Task::Table { choice, files } => each(rt, Job::Table(&choice), files, detail),
+        Task::Compare { first, second } => compare(rt, first, second, detail),
         Task::Tell { telling, files } => each(rt, Job::Tell(telling), files, detail),
         Task::Name {
             telling,

@@ -47,6 +47,11 @@ pub enum Task<'m, 'a> {
         choice: KeyChoice,
         files: Inputs<'m, 'a>,
     },
+    /// What differs in two files is printed.
+    Compare {
+        first: &'a str,
+        second: &'a str,
+    },
     /// A text of each file is printed.
     Tell {
         telling: Telling,
@@ -140,6 +145,9 @@ pub fn task_of<'m, 'a>(
     if name == "edit" {
         return edit_of(alloc, words);
     }
+    if name == "diff" {
+        return compared_of(words);
+    }
     let files = files_of(words)?;
     Ok(match name {
         "ask" => Task::Ask {
@@ -218,6 +226,17 @@ fn edit_of<'m, 'a>(
         named,
         terms,
     })
+}
+
+// The words of `diff`: two files.
+fn compared_of<'m, 'a>(words: &'m ArgMatches<'a>) -> Result<Task<'m, 'a>, TaskFault<'a>> {
+    let (Some(first), Some(second)) = (words.get_str("A"), words.get_str("B")) else {
+        return Err(TaskFault::Missing);
+    };
+    if oddity_of(first).is_some() || oddity_of(second).is_some() {
+        return Err(TaskFault::NotText);
+    }
+    Ok(Task::Compare { first, second })
 }
 
 // When the words of `edit` want the result saved.

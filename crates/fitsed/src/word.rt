@@ -49,6 +49,10 @@ pub enum Word {
     More,
     /// The files to read.
     Files,
+    /// The first of two files to compare.
+    First,
+    /// The second one.
+    Second,
 }
 
 impl Word {
@@ -77,6 +81,8 @@ impl Word {
             Word::Out => out(alloc),
             Word::More => more(alloc),
             Word::Files => files(alloc),
+            Word::First => Ok(path(alloc, "A", "The first file").required(true)),
+            Word::Second => Ok(path(alloc, "B", "The second file").required(true)),
         }
     }
 }
