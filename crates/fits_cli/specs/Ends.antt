@@ -12,7 +12,7 @@ use Rattle.fits_passing.specs.Opening.{HasOpenFault}
 use Rattle.fits_passing.specs.Report.{IsReportOf}
 use Rattle.fits_passing.specs.declared.open_fault.OpenFault.{OpenFault}
 use Rattle.fits_passing.specs.declared.problem.Problem.{Problem}
-use Rattle.fits_cli.specs.Answer.{at_first_line, LineNeedsMemory, WantsPixels}
+use Rattle.fits_cli.specs.Answer.{at_first_line, LineNeedsMemory, WantsData}
 use Rattle.fits_tell.specs.Faults.{status_of_fault}
 use Rattle.fits_cli.specs.Faults.{IsUnchanged}
 use Rattle.fits_cli.specs.declared.limits.TheConstants.{SCRIPT_LIMIT}
@@ -229,9 +229,9 @@ pub record NewErrorsFail (old new : RunState) : Type 0 where
   pub lines : PrintsFront (new_error_lines (new_errors (check_of old.terms.saves) end.before end.after)) answered new.printed
 
 -- data that a line wants aren't had again
-pub record LacksPixels (old new : RunState) : Type 0 where
+pub record LacksData (old new : RunState) : Type 0 where
   pub read : ReadsWell old new
-  pub at : StopsAtLine WantsPixels old new
+  pub at : StopsAtLine WantsData old new
 
 -- what stands before a fault that ends a run ahead of saving
 abbrev pub StopsBy : RunState → RunState → Fault → Type 0
@@ -240,7 +240,7 @@ StopsBy old new ScriptTooLong = IsTooLong old new
 StopsBy old new Memory = IsOutOfMemory old new ⊎ LacksReport old new
 StopsBy old new ReadFailed = FileFails old new ⊎ ScriptFails old new
 StopsBy old new WriteFailed = AnswersFail old new ⊎ NewErrorsFail old new
-StopsBy old new (RereadFault why) = (old.stored ≡ true) × IsUnchanged why × LacksPixels old new
+StopsBy old new (RereadFault why) = (old.stored ≡ true) × IsUnchanged why × LacksData old new
 
 -- a write of the saved file failed: all answers are flushed, and a prefix of the file stands
 pub record SavingFails (old new : RunState) (saved holds : SinkState) : Type 0 where

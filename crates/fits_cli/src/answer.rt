@@ -1,9 +1,9 @@
 //! What a command makes of a file, and what it prints.
 ghost use Rattle.std.specs.Prelude.{◌≡◌, ◌++◌, IfOk, IfErr, OnOk, OnErr, Ok};
 ghost use Rattle.fits_session.specs.Away.{LieStill};
-ghost use Rattle.fits_session.specs.Session.{marked_of};
+ghost use Rattle.fits_session.specs.Session.{absences_of, marked_of};
 ghost use Rattle.fits_cli.specs.Answer.{offset_line, offset_lines};
-ghost use Rattle.fits_cli.specs.Answer.{is_edit, outcome_of, CommandFails, IsReady};
+ghost use Rattle.fits_cli.specs.Answer.{absences_left, is_edit, outcome_of, CommandFails, IsReady};
 
 use crate::kept_line::kept;
 use crate::pixel_answers::{rectangle, statistics, sums};
@@ -27,6 +27,9 @@ pub(crate) fn answer<H: Holder + Drop>(
     ensures err { IfErr result (CommandFails (marked_of session.old) command) }
     ensures kept { OnErr result (marked_of session.new ≡ marked_of session.old) }
     ensures stays { LieStill session.old.hdus session.new.hdus }
+    ensures absences { OnOk result (absences_of session.new.hdus
+        ≡ absences_left command (absences_of session.old.hdus)) }
+    ensures away { OnErr result (absences_of session.new.hdus ≡ absences_of session.old.hdus) }
 {
     match command {
         Command::Nothing => Ok(Vec::new(alloc)),
@@ -44,7 +47,7 @@ pub(crate) fn answer<H: Holder + Drop>(
         }
         Command::Positions { hdu, name } => positions(alloc, session, hdu, &name),
         Command::Report => {
-            let report = session.report()?;
+            let report = session.known_report()?;
             Ok(report_text(alloc, &report)?)
         }
         Command::Statistics { hdu } => statistics(alloc, session, hdu),

@@ -1,5 +1,5 @@
 //! A script, answered line by line as it comes.
-ghost use Rattle.std.specs.Prelude.{◌≡◌, ◌<◌, ◌≤◌, ◌+◌, ◌^◌, ◌++◌, true, [], length, take, IfErr, IfOk, OnErr, OnOk};
+ghost use Rattle.std.specs.Prelude.{◌≡◌, ◌<◌, ◌≤◌, ◌+◌, ◌^◌, ◌++◌, ℕ, List, true, [], length, take, IfErr, IfOk, OnErr, OnOk};
 ghost use Rattle.std.specs.Prelude.{vec_capacity, vec_len};
 ghost use Rattle.std.specs.Option.{option_map};
 ghost use Rattle.std.specs.Io.{ReadsAtMost};
@@ -10,7 +10,7 @@ ghost use Rattle.fits_tell.specs.Faults.{PrintFails};
 ghost use Rattle.fits_cli.specs.Frame.{LinesLeave, PrintsSome, ScriptAnswers, ScriptLeaves};
 ghost use Rattle.fits_cli.specs.Reply.{reply_text};
 ghost use Rattle.fits_unit.specs.Again.{Follows};
-ghost use Rattle.fits_cli.specs.Running.{heard, kept_of, AnswersLine, AnswersScript, Continues, Steady};
+ghost use Rattle.fits_cli.specs.Running.{heard, kept_of, standing_at, AnswersLine, AnswersScript, Continues, IsToldBy};
 ghost use Rattle.fits_cli.specs.Running.{EndsScript, EndStops, LineStops, PieceStops, ScriptStops};
 
 use crate::limits::SCRIPT_LIMIT;
@@ -35,11 +35,11 @@ fn answer_line<H: Holder + Drop, O: Sink, E: Sink>(
     out: &mut O,
     told: &mut Option<E>,
 ) -> Result<(), Fault>
-    requires { runner.old.standing.line + 1 < 2 ^ 64 }
-    ensures ok { Steady H.whole runner.new.log → OnOk result (AnswersLine line.now runner.old.standing runner.new.standing
+    requires { runner.old.line + 1 < 2 ^ 64 }
+    ensures ok { (told : List ℕ) → IsToldBy H.whole told runner.new.log → OnOk result (AnswersLine line.now (standing_at told runner.old) (standing_at told runner.new)
         (heard (O.state out.old) (option_map E.state told.old))
         (heard (O.state out.new) (option_map E.state told.new))) }
-    ensures err { Steady H.whole runner.new.log → IfErr result (LineStops line.now runner.old.standing
+    ensures err { (told : List ℕ) → IsToldBy H.whole told runner.new.log → IfErr result (LineStops line.now (standing_at told runner.old)
         (heard (O.state out.old) (option_map E.state told.old))
         (heard (O.state out.new) (option_map E.state told.new))) }
     ensures quiet { OnOk result (runner.new.log.failures ≡ runner.old.log.failures) }
@@ -48,7 +48,8 @@ fn answer_line<H: Holder + Drop, O: Sink, E: Sink>(
     ensures leaves { IfErr result (LinesLeave (O.state out.old) (O.state out.new)) }
     ensures once { H.whole ≡ true → IfErr result IsOnce }
     ensures follows { Follows runner.old.log runner.new.log }
-    ensures line { OnOk result (runner.new.standing.line ≡ runner.old.standing.line + 1) }
+    ensures look { runner.new.look ≡ runner.old.look }
+    ensures line { OnOk result (runner.new.line ≡ runner.old.line + 1) }
 {
     let number = runner.line();
     let wanted = told.is_some();
@@ -102,14 +103,14 @@ fn answer_piece<H: Holder + Drop, O: Sink, E: Sink>(
     out: &mut O,
     told: &mut Option<E>,
 ) -> Result<(), Fault>
-    requires numbers { runner.old.standing.line + length piece.now + 1 < 2 ^ 64 }
+    requires numbers { runner.old.line + length piece.now + 1 < 2 ^ 64 }
     requires room { LINE_LIMIT + 1 ≤ vec_capacity line.old }
     requires within { vec_len line.old ≤ LINE_LIMIT + 1 }
-    ensures ok { Steady H.whole runner.new.log → OnOk result (Continues piece.now line.old.items line.new.items runner.old.standing
-        runner.new.standing
+    ensures ok { (told : List ℕ) → IsToldBy H.whole told runner.new.log → OnOk result (Continues piece.now line.old.items line.new.items (standing_at told runner.old)
+        (standing_at told runner.new)
         (heard (O.state out.old) (option_map E.state told.old))
         (heard (O.state out.new) (option_map E.state told.new))) }
-    ensures err { Steady H.whole runner.new.log → IfErr result (PieceStops piece.now line.old.items runner.old.standing
+    ensures err { (told : List ℕ) → IsToldBy H.whole told runner.new.log → IfErr result (PieceStops piece.now line.old.items (standing_at told runner.old)
         (heard (O.state out.old) (option_map E.state told.old))
         (heard (O.state out.new) (option_map E.state told.new))) }
     ensures quiet { OnOk result (runner.new.log.failures ≡ runner.old.log.failures) }
@@ -118,7 +119,8 @@ fn answer_piece<H: Holder + Drop, O: Sink, E: Sink>(
     ensures leaves { IfErr result (LinesLeave (O.state out.old) (O.state out.new)) }
     ensures once { H.whole ≡ true → IfErr result IsOnce }
     ensures follows { Follows runner.old.log runner.new.log }
-    ensures line { OnOk result (runner.new.standing.line ≤ runner.old.standing.line + length piece.now) }
+    ensures look { runner.new.look ≡ runner.old.look }
+    ensures line { OnOk result (runner.new.line ≤ runner.old.line + length piece.now) }
     ensures room { OnOk result (LINE_LIMIT + 1 ≤ vec_capacity line.new) }
     ensures within { OnOk result (vec_len line.new ≤ LINE_LIMIT + 1) }
 {
@@ -144,14 +146,14 @@ fn answer_at_once<H: Holder + Drop, O: Sink, E: Sink>(
     out: &mut O,
     told: &mut Option<E>,
 ) -> Result<(), Fault>
-    requires numbers { runner.old.standing.line + length piece.now + 1 < 2 ^ 64 }
+    requires numbers { runner.old.line + length piece.now + 1 < 2 ^ 64 }
     requires room { LINE_LIMIT + 1 ≤ vec_capacity line.old }
     requires within { vec_len line.old ≤ LINE_LIMIT + 1 }
-    ensures ok { Steady H.whole runner.new.log → OnOk result (Continues piece.now line.old.items line.new.items runner.old.standing
-        runner.new.standing
+    ensures ok { (told : List ℕ) → IsToldBy H.whole told runner.new.log → OnOk result (Continues piece.now line.old.items line.new.items (standing_at told runner.old)
+        (standing_at told runner.new)
         (heard (O.state out.old) (option_map E.state told.old))
         (heard (O.state out.new) (option_map E.state told.new))) }
-    ensures err { Steady H.whole runner.new.log → IfErr result (PieceStops piece.now line.old.items runner.old.standing
+    ensures err { (told : List ℕ) → IsToldBy H.whole told runner.new.log → IfErr result (PieceStops piece.now line.old.items (standing_at told runner.old)
         (heard (O.state out.old) (option_map E.state told.old))
         (heard (O.state out.new) (option_map E.state told.new))) }
     ensures quiet { OnOk result (runner.new.log.failures ≡ runner.old.log.failures) }
@@ -160,8 +162,9 @@ fn answer_at_once<H: Holder + Drop, O: Sink, E: Sink>(
     ensures leaves { IfErr result (LinesLeave (O.state out.old) (O.state out.new)) }
     ensures once { H.whole ≡ true → IfErr result IsOnce }
     ensures follows { Follows runner.old.log runner.new.log }
+    ensures look { runner.new.look ≡ runner.old.look }
     ensures flushed { OnOk result ((O.state out.new).unflushed ≡ 0) }
-    ensures line { OnOk result (runner.new.standing.line ≤ runner.old.standing.line + length piece.now) }
+    ensures line { OnOk result (runner.new.line ≤ runner.old.line + length piece.now) }
     ensures room { OnOk result (LINE_LIMIT + 1 ≤ vec_capacity line.new) }
     ensures within { OnOk result (vec_len line.new ≤ LINE_LIMIT + 1) }
 {
@@ -177,11 +180,11 @@ fn answer_last_line<H: Holder + Drop, O: Sink, E: Sink>(
     out: &mut O,
     told: &mut Option<E>,
 ) -> Result<(), Fault>
-    requires { runner.old.standing.line + 1 < 2 ^ 64 }
-    ensures ok { Steady H.whole runner.new.log → OnOk result (EndsScript line.now runner.old.standing runner.new.standing
+    requires { runner.old.line + 1 < 2 ^ 64 }
+    ensures ok { (told : List ℕ) → IsToldBy H.whole told runner.new.log → OnOk result (EndsScript line.now (standing_at told runner.old) (standing_at told runner.new)
         (heard (O.state out.old) (option_map E.state told.old))
         (heard (O.state out.new) (option_map E.state told.new))) }
-    ensures err { Steady H.whole runner.new.log → IfErr result (EndStops line.now runner.old.standing
+    ensures err { (told : List ℕ) → IsToldBy H.whole told runner.new.log → IfErr result (EndStops line.now (standing_at told runner.old)
         (heard (O.state out.old) (option_map E.state told.old))
         (heard (O.state out.new) (option_map E.state told.new))) }
     ensures quiet { OnOk result (runner.new.log.failures ≡ runner.old.log.failures) }
@@ -190,6 +193,7 @@ fn answer_last_line<H: Holder + Drop, O: Sink, E: Sink>(
     ensures leaves { IfErr result (LinesLeave (O.state out.old) (O.state out.new)) }
     ensures once { H.whole ≡ true → IfErr result IsOnce }
     ensures follows { Follows runner.old.log runner.new.log }
+    ensures look { runner.new.look ≡ runner.old.look }
 {
     if line.is_empty() {
         return Ok(());
@@ -206,12 +210,12 @@ pub(crate) fn answer_script<H: Holder + Drop, S: Source, O: Sink, E: Sink>(
     out: &mut O,
     told: &mut Option<E>,
 ) -> Result<(), Fault>
-    requires { runner.old.standing.line ≡ 1 }
-    ensures ok { Steady H.whole runner.new.log → OnOk result (AnswersScript (S.state script.old) (S.state script.new) runner.old.standing
-        runner.new.standing
+    requires { runner.old.line ≡ 1 }
+    ensures ok { (told : List ℕ) → IsToldBy H.whole told runner.new.log → OnOk result (AnswersScript (S.state script.old) (S.state script.new) (standing_at told runner.old)
+        (standing_at told runner.new)
         (heard (O.state out.old) (option_map E.state told.old))
         (heard (O.state out.new) (option_map E.state told.new))) }
-    ensures err { Steady H.whole runner.new.log → IfErr result (ScriptStops (S.state script.old) (S.state script.new) runner.old.standing
+    ensures err { (told : List ℕ) → IsToldBy H.whole told runner.new.log → IfErr result (ScriptStops (S.state script.old) (S.state script.new) (standing_at told runner.old)
         (heard (O.state out.old) (option_map E.state told.old))
         (heard (O.state out.new) (option_map E.state told.new))) }
     ensures quiet { OnOk result (runner.new.log.failures ≡ runner.old.log.failures) }
@@ -223,6 +227,7 @@ pub(crate) fn answer_script<H: Holder + Drop, S: Source, O: Sink, E: Sink>(
         (O.state out.old) (O.state out.new)) }
     ensures once { H.whole ≡ true → IfErr result IsOnce }
     ensures follows { Follows runner.old.log runner.new.log }
+    ensures look { runner.new.look ≡ runner.old.look }
 {
     let mut buffer = buffer_of(alloc, PIECE_LEN)?;
     let mut line = Vec::with_capacity(alloc, LINE_ROOM)?;
@@ -267,15 +272,15 @@ fn answer_pieces<H: Holder + Drop, S: Source, O: Sink, E: Sink>(
     piece: &mut [u8],
     line: &mut Vec<u8>,
 ) -> Result<(), Fault>
-    requires first { runner.old.standing.line ≡ 1 }
+    requires first { runner.old.line ≡ 1 }
     requires wide { 0 < length piece.old }
     requires empty { line.old.items ≡ [] }
     requires room { LINE_LIMIT + 1 ≤ vec_capacity line.old }
-    ensures ok { Steady H.whole runner.new.log → OnOk result (AnswersScript (S.state script.old) (S.state script.new) runner.old.standing
-        runner.new.standing
+    ensures ok { (told : List ℕ) → IsToldBy H.whole told runner.new.log → OnOk result (AnswersScript (S.state script.old) (S.state script.new) (standing_at told runner.old)
+        (standing_at told runner.new)
         (heard (O.state out.old) (option_map E.state told.old))
         (heard (O.state out.new) (option_map E.state told.new))) }
-    ensures err { Steady H.whole runner.new.log → IfErr result (ScriptStops (S.state script.old) (S.state script.new) runner.old.standing
+    ensures err { (told : List ℕ) → IsToldBy H.whole told runner.new.log → IfErr result (ScriptStops (S.state script.old) (S.state script.new) (standing_at told runner.old)
         (heard (O.state out.old) (option_map E.state told.old))
         (heard (O.state out.new) (option_map E.state told.new))) }
     ensures quiet { OnOk result (runner.new.log.failures ≡ runner.old.log.failures) }
@@ -287,6 +292,7 @@ fn answer_pieces<H: Holder + Drop, S: Source, O: Sink, E: Sink>(
         (O.state out.old) (O.state out.new)) }
     ensures once { H.whole ≡ true → IfErr result IsOnce }
     ensures follows { Follows runner.old.log runner.new.log }
+    ensures look { runner.new.look ≡ runner.old.look }
 {
     let mut taken = 0usize;
     loop {

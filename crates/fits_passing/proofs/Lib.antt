@@ -14,6 +14,7 @@ pub mod ReadingLemmas
 pub mod ReportLemmas
 pub mod ShapeLemmas
 pub mod StatsLemmas
+pub mod StoredLemmas
 pub mod SumFacts
 pub mod SumLemmas
 pub mod WalkLemmas

@@ -36,6 +36,14 @@ impl Seen {
         self.device == about.dev() && self.inode == about.ino()
     }
 
+    /// Whether the file that was opened is as it was, as far as the system tells.
+    pub fn is_as_it_was(&self, file: &File) -> bool {
+        match file.metadata() {
+            Ok(about) => self.is_still(&about),
+            Err(_) => true,
+        }
+    }
+
     /// Whether this is that file, and as it was.
     pub(crate) fn is_still(&self, about: &Metadata) -> bool {
         self.is_of(about)

@@ -73,7 +73,7 @@ kept_without holding hdus tail bytes entries room kept =
         placed = seen_all (IsPlaced (keys_of entries)) uncounted (λ one p. p) hdus kept.names.placed;
       };
       roomy = omega (arith, kept.roomy, length-map hdus uncounted);
-      had = seen_all (IsHad holding) uncounted (λ one p. record { held = p.held; lies = p.lies }) hdus kept.had;
+      had = seen_all (IsHad holding) uncounted (λ one p. record { held = p.held; lies = p.lies; kept = p.kept }) hdus kept.had;
     }
 
 -- and back
@@ -91,7 +91,7 @@ kept_with holding hdus tail bytes entries room kept =
         placed = all_seen (IsPlaced (keys_of entries)) uncounted (λ one p. p) hdus kept.names.placed;
       };
       roomy = omega (arith, kept.roomy, length-map hdus uncounted);
-      had = all_seen (IsHad holding) uncounted (λ one p. record { held = p.held; lies = p.lies }) hdus kept.had;
+      had = all_seen (IsHad holding) uncounted (λ one p. record { held = p.held; lies = p.lies; kept = p.kept }) hdus kept.had;
     }
 
 -- so it is kept where counts alone change

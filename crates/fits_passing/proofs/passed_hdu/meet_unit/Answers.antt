@@ -1,0 +1,10 @@
+use Rattle.std.proofs.lemmas.List.{length-replicate}
+use Rattle.fits_stream.proofs.SightLemmas.{takes_none}
+use Rattle.fits_passing.proofs.passed_hdu.meet_unit.Goals as goal
+
+-- nothing of it is taken
+pub returns-then-leaves-clause-ok : goal.returns-then-leaves-clause-ok
+returns-then-leaves-clause-ok g c = takes_none _
+
+pub returns-then-leaves-clause-size : goal.returns-then-leaves-clause-size
+returns-then-leaves-clause-size g c = length-replicate c.args.len 0
