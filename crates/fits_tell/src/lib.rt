@@ -11,6 +11,7 @@ mod fault;
 mod file_fault;
 mod level;
 mod listed;
+mod listed_lines;
 mod listing;
 mod name_pattern;
 mod pixel_lines;
@@ -27,7 +28,6 @@ mod table_report;
 mod telling;
 mod untouched;
 mod verifying;
-mod verifying_tables;
 
 pub use card_choice::CardChoice;
 pub use card_place::CardPlace;

@@ -13,7 +13,7 @@ pub enum Listed {
 
 impl Listed {
     ghost use Rattle.std.specs.Prelude.{◌≡◌};
-    ghost use Rattle.fits_tell.specs.TableReport.{is_listed_error, lists_it};
+    ghost use Rattle.fits_tell.specs.Listed.{is_listed_error, lists_it};
 
     /// Whether it is an error.
     pub fn is_error(self) -> bool

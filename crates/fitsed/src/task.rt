@@ -292,19 +292,11 @@ fn telling_of<'a>(name: &str, words: &ArgMatches<'a>) -> Result<Telling, TaskFau
 
 // The report of `verify`, as a level has it.
 fn report_of(words: &ArgMatches<'_>, level: Level, cards: bool) -> Telling {
-    let strict = words.get_flag("warnings");
-    if words.get_flag("tables") {
-        Telling::TableReport {
-            level,
-            strict,
-            cards,
-        }
-    } else {
-        Telling::Report {
-            level,
-            strict,
-            cards,
-        }
+    Telling::Report {
+        level,
+        strict: words.get_flag("warnings"),
+        cards,
+        tables: words.get_flag("tables"),
     }
 }
 

@@ -1,6 +1,6 @@
 use Rattle.std.proofs.Common.{◌≡◌, ◌≤◌, take}
-use Rattle.fits_tell.specs.TableReport.{listed_errors}
-use Rattle.fits_tell.proofs.verifying_tables.count_errors.Given as goal
+use Rattle.fits_tell.specs.Listed.{listed_errors}
+use Rattle.fits_tell.proofs.listed_lines.count_errors.Given as goal
 
 abbrev pub invariant-loop-it : goal.invariant-loop-it
 invariant-loop-it l = record {
