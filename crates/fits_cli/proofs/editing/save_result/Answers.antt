@@ -15,7 +15,7 @@ returns-in-Nothing-clause-ends g c steady file after script script_after held to
 -- lines that weren't done hold it back
 pub returns-then-is_held_back-clause-ends : goal.returns-then-is_held_back-clause-ends
 returns-then-is_held_back-clause-ends g c steady file after script script_after held told told_after run =
-    (rw c.refused.ensures (Kept-back _ _ told told_after c.args.runner.now.standing (read_reports c.args.before.now) (sym c.is_held_back.ensures ∙ c.if-is_held_back.true) run), refl)
+    (rw c.refused.ensures.value (Kept-back _ _ told told_after c.args.runner.now.standing (read_reports c.args.before.now) (sym c.is_held_back.ensures ∙ c.if-is_held_back.true) run), refl)
 
 -- memory is refused for its report
 pub returns-in_err-found-in-Made-clause-ends : goal.returns-in_err-found-in-Made-clause-ends
