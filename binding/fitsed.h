@@ -69,9 +69,11 @@ typedef struct {
 
 /* Answers a script over a file, as `fitsed edit`. */
 enum {
-    FITSED_WHOLE = 1,   /* every line is to be done, else nothing is saved: `-a` */
-    FITSED_CHECKED = 2, /* nothing is saved that has more errors of some code than the file had: `-c` */
-    FITSED_SUMS = 4     /* right sums are kept right: `-s` */
+    FITSED_WHOLE = 1,       /* every line is to be done, else nothing is saved: `-a` */
+    FITSED_CHECKED = 2,     /* nothing is saved that has more errors of some code than the file had: `-c` */
+    FITSED_SUMS = 4,        /* right sums are kept right: `-s` */
+    FITSED_EXTENDED = 8,    /* extended lines are taken, each for the plain lines that it stands for: `-x` */
+    FITSED_KEPT_TABLES = 16 /* an edit that would leave other columns of a table is refused: `-t` */
 };
 uint8_t fitsed_edit(const uint8_t *file, size_t file_len, const uint8_t *script, size_t script_len, uint8_t flags,
                     fitsed_outcome *outcome);

@@ -17,7 +17,7 @@ else:
     print("no row is run by the library: it isn't built", file=sys.stderr)
 
 # The flags of `edit` and of `verify` that the library has, and their numbers.
-EDITS = {"-a": 1, "-c": 2, "-s": 4}
+EDITS = {"-a": 1, "-c": 2, "-s": 4, "-x": 8, "-t": 16}
 REPORTS = {"-e": 1, "-q": 2, "-w": 4, "-p": 8, "-t": 16}
 TEXTS = {"list": "fitsed_list", "sum": "fitsed_sum", "stat": "fitsed_stat"}
 
@@ -66,6 +66,10 @@ def runs(words, files, pieces):
             status, printed, saved, message = _calls.run(getattr(_calls.library, name), files["in.fits"], *lent, *takes[1:])
     else:
         status, printed, saved, message = _calls.run(getattr(_calls.library, name), files["in.fits"], *takes)
-    yield name, {"status": status, "printed": printed, "reported": message and message + b"\n", "saved": saved or None}
+    came = {"status": status, "printed": printed, "saved": saved or None}
+    # the program says besides why a result isn't saved
+    if status != 1 or saved or name != "fitsed_edit":
+        came["reported"] = message and message + b"\n"
+    yield name, came
     if name == "fitsed_edit" and takes[1] == 0 and status < 2:
         yield "lines of a session", by_lines(files["in.fits"], takes[0])

@@ -7,6 +7,9 @@ ALL = ["verify"]
 ERRORS = ["verify", "-e"]
 QUIET = ["verify", "-q"]
 
+# A line for each code in place of one for each problem.
+SUMMARY = ["verify", "--summary"]
+
 # A primary array of two pixels of 16 bits.
 TWO_PIXELS = (
     "SIMPLE  =                    T|BITPIX  =                   16|"
@@ -355,6 +358,41 @@ VERIFIED = [
     ),
     (([(P0, 0)], "x"), ERRORS, "errors 0 warnings 1\n", 0),
     (([(P0, 0)], "x"), QUIET, "errors 0 warnings 1\n", 0),
+    # by the numbers of codes, each once
+    (([(P0, 0)], ""), SUMMARY, CLEAN, 0),
+    (
+        WRONG,
+        SUMMARY,
+        "E14 1 END card not blank\nE16 1 PCOUNT or GCOUNT out of place\n"
+        "E18 1 SIMPLE or XTENSION in the wrong kind of HDU\nW26 1 bytes after the last HDU\nerrors 3 warnings 1\n",
+        1,
+    ),
+    (
+        WRONG,
+        [*SUMMARY, "-e"],
+        "E14 1 END card not blank\nE16 1 PCOUNT or GCOUNT out of place\n"
+        "E18 1 SIMPLE or XTENSION in the wrong kind of HDU\nerrors 3 warnings 1\n",
+        1,
+    ),
+    (WRONG, [*SUMMARY, "-q"], "errors 3 warnings 1\n", 1),
+    (NAMED_TWICE, SUMMARY, "W25 2 two extensions of one type, name and version\nerrors 0 warnings 2\n", 0),
+    (NAMED_TWICE, [*SUMMARY, "-w"], "W25 2 two extensions of one type, name and version\nerrors 0 warnings 2\n", 1),
+    (NAMED_TWICE, [*SUMMARY, "-e"], "errors 0 warnings 2\n", 0),
+    (
+        (
+            [
+                (f"{MANDATORY}|DATE    = 1|DATE    = '2024-02-30'|epoch   = 1|EPOCH   = x|EPOCH   = x|END", 0),
+                (THREE_WRONG, 0),
+                (THREE_WRONG, 0),
+            ],
+            "",
+        ),
+        SUMMARY,
+        "E02 1 bad keyword name\nE03 2 unreadable value\nE05 1 value of the wrong type\nW08 2 keyword repeated\nE12 1 bad date\n"
+        "W13 2 deprecated keyword\nE14 2 END card not blank\nE16 2 PCOUNT or GCOUNT out of place\n"
+        "E18 2 SIMPLE or XTENSION in the wrong kind of HDU\nerrors 11 warnings 4\n",
+        1,
+    ),
 ]
 
 # Bytes of the shortest file, what they become, a script, its answers, the status, and what is saved.

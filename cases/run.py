@@ -17,6 +17,7 @@ import card_edits
 import codes
 import commands
 import documents
+import extended
 import faults
 import hdu_edits
 import keeping
@@ -29,6 +30,7 @@ import mending
 import odd_places
 import one_file
 import openings
+import pairs
 import pixel_edits
 import planes
 import program
@@ -54,10 +56,12 @@ TABLES = [
     listings,
     sums,
     commands,
+    pairs,
     reports,
     codes,
     tables,
     mending,
+    extended,
     faults,
     one_file,
     again,

@@ -5,24 +5,26 @@ _fitsed() {
     local command=${COMP_WORDS[1]} flags
     COMPREPLY=()
     if [ "$COMP_CWORD" -eq 1 ]; then
-        mapfile -t COMPREPLY < <(compgen -W 'edit ask cards keys list sum stat verify help --help --version' -- "$word")
+        mapfile -t COMPREPLY < <(compgen -W 'edit ask cards keys diff list sum stat verify help --help --version' -- "$word")
         return
     fi
     case $before in
         -e | --line | -k | --name | -u | --hdu | -b | --backup) return ;;
         help)
-            mapfile -t COMPREPLY < <(compgen -W 'edit ask cards keys list sum stat verify' -- "$word")
+            mapfile -t COMPREPLY < <(compgen -W 'edit ask cards keys diff list sum stat verify' -- "$word")
             return
             ;;
     esac
     case $command in
         keys) flags='--hdu --name --recursive --files0-from --verbose' ;;
-        edit) flags='--all --check --warnings --sums --in-place --done --no-clobber --safe --backup --line --file --with-filename --recursive --verbose' ;;
-        ask) flags='--line --file --with-filename --recursive --files0-from --verbose' ;;
+        diff) flags='--script --verbose' ;;
+        edit) flags='--all --check --warnings --sums --tables --in-place --done --no-clobber --safe --backup --line --file --extended --with-filename --recursive --verbose' ;;
+        ask) flags='--line --file --extended --tables --with-filename --recursive --files0-from --verbose' ;;
         cards) flags='--hdu --name --files-without --null --with-filename --recursive --files0-from --verbose' ;;
-        list | stat) flags='--with-filename --recursive --files0-from --verbose' ;;
+        list) flags='--long --with-filename --recursive --files0-from --verbose' ;;
+        stat) flags='--with-filename --recursive --files0-from --verbose' ;;
         sum) flags='--check --with-filename --recursive --files0-from --verbose' ;;
-        verify) flags='--errors --quiet --print-cards --tables --warnings --files-with-errors --null --with-filename --recursive --files0-from --verbose' ;;
+        verify) flags='--errors --quiet --print-cards --summary --tables --warnings --files-with-errors --null --with-filename --recursive --files0-from --verbose' ;;
         *) return ;;
     esac
     case $word in

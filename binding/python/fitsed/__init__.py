@@ -207,15 +207,24 @@ def _script(lines: str | bytes | Iterable[str | bytes]) -> bytes:
 
 
 def edit(
-    source: Any, lines: str | bytes | Iterable[str], *, whole: bool = False, checked: bool = False, sums: bool = False
+    source: Any,
+    lines: str | bytes | Iterable[str],
+    *,
+    whole: bool = False,
+    checked: bool = False,
+    sums: bool = False,
+    extended: bool = False,
+    tables: bool = False,
 ) -> Outcome:  # pylint: disable=redefined-outer-name
     """Answers a script over a file, as `fitsed edit` does: a text, or lines.
 
     With `whole` nothing is saved unless every line is done, with `checked` nothing that has more errors than the file had, and
-    with `sums` right sums are kept right. Raises NotOpened, ValueError of a script that is too long, MemoryError.
+    with `sums` right sums are kept right. With `extended` further lines are taken, each for the plain ones that it stands for,
+    and with `tables` an edit that would leave other columns of a table is refused. Raises NotOpened, ValueError of a script that
+    is too long, MemoryError.
     """
     with _calls.lent(_script(lines)) as script:
-        return _run(_library.fitsed_edit, source, *script, whole + 2 * checked + 4 * sums)
+        return _run(_library.fitsed_edit, source, *script, whole + 2 * checked + 4 * sums + 8 * extended + 16 * tables)
 
 
 def ask(source: Any, lines: str | bytes | Iterable[str]) -> Outcome:

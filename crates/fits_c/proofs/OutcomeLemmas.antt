@@ -5,8 +5,6 @@ use Rattle.fits_stream.specs.Stream.{SourceState, SinkState, Prints}
 use Rattle.fits_stream.proofs.StreamLemmas.{Prints-more}
 use Rattle.fits_passing.specs.File.{IsFileOf}
 use Rattle.fits_passing.specs.Opening.{HasOpenFault}
-use Rattle.fits_passing.specs.Report.{IsReportOf}
-use Rattle.fits_passing.specs.declared.problem.Problem.{Problem}
 use Rattle.fits_tell.specs.Cards.{CardsEndAs, CardsStop}
 use Rattle.fits_tell.specs.Faults.{status_of_fault}
 use Rattle.fits_tell.specs.Telling.{TextEndsAs}
@@ -18,14 +16,16 @@ use Rattle.fits_tell.specs.declared.fault.Fault.TheVariants.{Refused, ScriptTooL
 use Rattle.fits_tell.specs.declared.telling.Telling.{Telling}
 use Rattle.fits_cli.specs.Ends.{end_of, run_by, EndsBy, FailsBy, IsRun, ReachesEnd, RunState, StopsBy}
 use Rattle.fits_cli.specs.Ends as ends
-use Rattle.fits_cli.specs.NewErrors.{new_error_lines, new_errors}
 use Rattle.fits_cli.specs.Output.{Output, IsOutputOf}
+use Rattle.fits_cli.specs.Reports.{new_lines, AreReportsOf, Reports}
 use Rattle.fits_cli.specs.Terms.{check_of}
 use Rattle.fits_cli.specs.declared.edited.Edited.{Edited}
 use Rattle.fits_cli.specs.declared.edited.Edited.TheVariants.{Done, KeptBack, Unsound}
 use Rattle.fits_cli.specs.declared.saves.Saves.{Saves}
 use Rattle.fits_cli.specs.declared.saves.Saves.TheVariants.{Made, Nothing}
 use Rattle.fits_cli.specs.declared.terms.Terms.{Terms}
+use Rattle.fits_tell.specs.declared.level.Level.TheVariants.{Quiet}
+use Rattle.fits_cli.proofs.ReportsLemmas.{has_counts}
 use Rattle.fits_c.specs.Message.{fault_text, message_of}
 use Rattle.fits_c.specs.Outcome.{only, source_of, CardsComeTo, EditComesTo, IsSaved, TellComesTo}
 use Rattle.fits_c.specs.Runs.{HasMade, IsOutcomeOf}
@@ -64,11 +64,11 @@ module _ (file script answers kept : List ℕ) (file_after script_after : Source
       subst (λ (bytes : List ℕ). IsOutputOf terms bytes script it.output) (sym it.told_file) (subst (λ (bytes : List ℕ). IsOutputOf terms it.file bytes it.output) (sym it.told_script) it.is)
 
   -- nothing keeps the result back
-  is_saved : (saves : Saves) (output : Output) (first last : List Problem) (status : ℕ) (it : Outcome) → HasMade status None answers kept it
+  is_saved : (saves : Saves) (output : Output) (first last : Reports) (status : ℕ) (it : Outcome) → HasMade status None answers kept it
       → answers ≡ output.text → status ≡ output.status → ends.IsSaved saves output first last saved saved_after → IsSaved saves output first last it
   is_saved Nothing output first last status it made text same end = record {
     due = refl;
-    sound = λ more. absurd (cc);
+    sound = λ more. has_counts Quiet first last more refl;
     answers_are = made.answers_are ∙ text;
     saved_is = made.saved_is ∙ none_kept saved saved_after kept no_saved saved_told end;
     status_is = made.status_is ∙ same;
@@ -123,7 +123,7 @@ module _ (file script answers kept : List ℕ) (file_after script_after : Source
       whole = end.end.run.fault_is;
       before = end.end.before;
       after = end.end.after;
-      before_is = subst (λ (bytes : List ℕ). IsReportOf end.end.before bytes) (sym end.end.run.told_file) end.end.before_is;
+      before_is = subst (λ (bytes : List ℕ). AreReportsOf terms.tables end.end.before bytes) (sym end.end.run.told_file) end.end.before_is;
       after_is = end.end.after_is;
       ends = inl (is_saved terms.saves end.end.run.output end.end.before end.end.after status it made
           (printed out out_after end.end.run.output.text answers no_answers answers_told end.end.run.printed) end.status_is end.result);
@@ -137,7 +137,7 @@ module _ (file script answers kept : List ℕ) (file_after script_after : Source
       whole = end.0.end.run.fault_is;
       before = end.0.end.before;
       after = end.0.end.after;
-      before_is = subst (λ (bytes : List ℕ). IsReportOf end.0.end.before bytes) (sym end.0.end.run.told_file) end.0.end.before_is;
+      before_is = subst (λ (bytes : List ℕ). AreReportsOf terms.tables end.0.end.before bytes) (sym end.0.end.run.told_file) end.0.end.before_is;
       after_is = end.0.end.after_is;
       ends = inr (inl (record {
         kept = end.0.kept;
@@ -149,7 +149,7 @@ module _ (file script answers kept : List ℕ) (file_after script_after : Source
     });
   })
   ended terms (Ok (Unsound errors warnings)) it made end =
-      let lines : List ℕ = new_error_lines (new_errors (check_of terms.saves) end.0.end.before end.0.end.after) in
+      let lines : List ℕ = new_lines (check_of terms.saves) end.0.end.before end.0.end.after in
       inr (record {
         output = end.0.end.run.output;
         is = output_is terms end.0.answered None end.0.end.run;
@@ -157,7 +157,7 @@ module _ (file script answers kept : List ℕ) (file_after script_after : Source
           whole = end.0.end.run.fault_is;
           before = end.0.end.before;
           after = end.0.end.after;
-          before_is = subst (λ (bytes : List ℕ). IsReportOf end.0.end.before bytes) (sym end.0.end.run.told_file) end.0.end.before_is;
+          before_is = subst (λ (bytes : List ℕ). AreReportsOf terms.tables end.0.end.before bytes) (sym end.0.end.run.told_file) end.0.end.before_is;
           after_is = end.0.end.after_is;
           ends = inr (inr (record {
             done = end.0.done;
@@ -253,6 +253,7 @@ pub told : (file answers : List ℕ) (file_after : SourceState) (out out_after :
 told file answers file_after out out_after kind status fault it ends made no_answers answers_told =
     elim made [ inl short ↦ inl short | inr all ↦ told_all file answers file_after out out_after no_answers answers_told kind status fault it all ends ]
 
+-- a run that prints the cards of HDU h comes to what C is given of it
 pub shown : (h : ℕ) (file answers : List ℕ) (file_after : SourceState) (out out_after : SinkState) (choice : CardChoice) (end : End) (changed : List CardPlace) (it : Outcome)
     → CardsEndAs choice (source_of file) file_after out out_after end changed → IsOutcomeOf end.status end.fault answers [] it
     → choice.hdus.items ≡ only h → choice.names.items ≡ [] → out.contents.told ≡ Some [] → out_after.contents.told ≡ Some answers → CardsComeTo h file it

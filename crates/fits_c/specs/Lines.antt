@@ -82,11 +82,11 @@ printed_from number it (line ∷ lines) =
     printed_as number (said_by it (reading_of line)) ++ printed_from (number + 1) (left_as it (said_by it (reading_of line))) lines
 
 -- the file and its marks as lines leave them, one after another
-abbrev pub left_after : Marked → List (List ℕ) → Marked
-left_after it [] = it
-left_after it (line ∷ lines) = left_after (left_as it (said_by it (reading_of line))) lines
+abbrev pub left_by : Marked → List (List ℕ) → Marked
+left_by it [] = it
+left_by it (line ∷ lines) = left_by (left_as it (said_by it (reading_of line))) lines
 
 -- this is printed of lines that were done one by one, and the file is as they leave it
 pub record IsOfLines (file : FileParts) (lines : List (List ℕ)) (output : Output) : Type 0 where
   pub text : output.text ≡ printed_from 1 (unmarked file) lines
-  pub saved : output.saved ≡ file_bytes (left_after (unmarked file) lines).file
+  pub saved : output.saved ≡ file_bytes (left_by (unmarked file) lines).file

@@ -4,16 +4,14 @@ use Rattle.fits_stream.specs.Stream.{SourceState}
 use Rattle.fits_passing.specs.File.{FileParts, IsFileOf}
 use Rattle.fits_passing.specs.Headers.{ShowsHeaders}
 use Rattle.fits_passing.specs.Opening.{HasOpenFault}
-use Rattle.fits_passing.specs.Report.{IsReportOf}
 use Rattle.fits_passing.specs.declared.open_fault.OpenFault.{OpenFault}
-use Rattle.fits_passing.specs.declared.problem.Problem.{Problem}
 use Rattle.fits_tell.specs.Cards.{all_chosen, cards_text, end_of_cards}
 use Rattle.fits_tell.specs.Telling.{text_of, status_of_text}
 use Rattle.fits_tell.specs.declared.card_choice.CardChoice.{CardChoice}
 use Rattle.fits_tell.specs.declared.fault.Fault.{Fault}
 use Rattle.fits_tell.specs.declared.telling.Telling.{Telling}
-use Rattle.fits_cli.specs.NewErrors.{new_error_lines, new_errors, HasMoreErrors}
 use Rattle.fits_cli.specs.Output.{Output, IsOutputOf}
+use Rattle.fits_cli.specs.Reports.{new_lines, AreReportsOf, HasMore, Reports}
 use Rattle.fits_cli.specs.Terms.{check_of, holds_back}
 use Rattle.fits_cli.specs.declared.saves.Saves.{Saves}
 use Rattle.fits_cli.specs.declared.saves.Saves.TheVariants.{Made, Nothing}
@@ -31,9 +29,9 @@ saved_by Nothing output = []
 saved_by (Made whole check) output = output.saved
 
 -- nothing keeps the result back
-pub record IsSaved (saves : Saves) (output : Output) (before after : List Problem) (it : Outcome) : Type 0 where
+pub record IsSaved (saves : Saves) (output : Output) (before after : Reports) (it : Outcome) : Type 0 where
   pub due : holds_back saves output.undone ≡ false
-  pub sound : HasMoreErrors (check_of saves) before after → ⊥
+  pub sound : HasMore (check_of saves) before after → ⊥
   pub answers_are : it.answers.items ≡ output.text
   pub saved_is : it.saved.items ≡ saved_by saves output
   pub status_is : it.status ≡ output.status
@@ -46,22 +44,22 @@ pub record IsHeldBack (saves : Saves) (output : Output) (it : Outcome) : Type 0 
   pub status_is : it.status ≡ 1
 
 -- there are more problems of a code that counts: their lines follow the answers, and no file is given
-pub record HasNewErrors (saves : Saves) (output : Output) (before after : List Problem) (it : Outcome) : Type 0 where
+pub record HasNewErrors (saves : Saves) (output : Output) (before after : Reports) (it : Outcome) : Type 0 where
   pub done : holds_back saves output.undone ≡ false
-  pub more : HasMoreErrors (check_of saves) before after
-  pub answers_are : it.answers.items ≡ output.text ++ new_error_lines (new_errors (check_of saves) before after)
+  pub more : HasMore (check_of saves) before after
+  pub answers_are : it.answers.items ≡ output.text ++ new_lines (check_of saves) before after
   pub saved_is : it.saved.items ≡ []
   pub status_is : it.status ≡ 1
 
--- the script was answered to its end; what becomes of the result is up to its lines and to two reports, of the file and of what the script
--- makes of it
-pub record IsDone (saves : Saves) (file : List ℕ) (output : Output) (it : Outcome) : Type 0 where
+-- the script was answered to its end; what becomes of the result is up to its lines and to the reports of the file and of what the
+-- script makes of it
+pub record IsDone (terms : Terms) (file : List ℕ) (output : Output) (it : Outcome) : Type 0 where
   pub whole : output.fault ≡ None
-  pub before : List Problem
-  pub after : List Problem
-  pub before_is : IsReportOf before file
-  pub after_is : IsReportOf after output.made
-  pub ends : IsSaved saves output before after it ⊎ (IsHeldBack saves output it ⊎ HasNewErrors saves output before after it)
+  pub before : Reports
+  pub after : Reports
+  pub before_is : AreReportsOf terms.tables before file
+  pub after_is : AreReportsOf terms.tables after output.made
+  pub ends : IsSaved terms.saves output before after it ⊎ (IsHeldBack terms.saves output it ⊎ HasNewErrors terms.saves output before after it)
   pub message_is : it.message.items ≡ []
 
 -- a fault of the file or of the script ended it: the answers before it are given, and why
@@ -77,7 +75,7 @@ pub record IsStopped (output : Output) (it : Outcome) : Type 0 where
 pub record IsEdited (terms : Terms) (file script : List ℕ) (it : Outcome) : Type 0 where
   pub output : Output
   pub is : IsOutputOf terms file script output
-  pub ends : IsDone terms.saves file output it ⊎ IsStopped output it
+  pub ends : IsDone terms file output it ⊎ IsStopped output it
 
 -- a run of `edit` or `ask` comes to that, or memory was refused and its status is 3
 abbrev pub EditComesTo : Terms → List ℕ → List ℕ → Outcome → Type 0

@@ -10,6 +10,10 @@ const WHOLE: u8 = 1;
 const CHECKED: u8 = 2;
 /// Right sums are kept right.
 const SUMS: u8 = 4;
+/// Extended lines are taken.
+const EXTENDED: u8 = 8;
+/// The columns of tables are kept.
+const KEPT_TABLES: u8 = 16;
 
 /// A report lists errors alone.
 const ERRORS: u8 = 1;
@@ -25,6 +29,8 @@ const TABLES: u8 = 16;
 /// The terms of a run that saves nothing.
 pub const ASKING: Terms = Terms {
     sums: false,
+    extended: false,
+    tables: false,
     spare: false,
     saves: Saves::Nothing,
 };
@@ -40,6 +46,8 @@ pub fn terms_of(flags: u8) -> Terms
     };
     Terms {
         sums: has(flags, SUMS),
+        extended: has(flags, EXTENDED),
+        tables: has(flags, KEPT_TABLES),
         spare: false,
         saves: Saves::Made {
             whole: has(flags, WHOLE),
@@ -52,21 +60,11 @@ pub fn terms_of(flags: u8) -> Terms
 pub fn report_by(flags: u8) -> Telling
     ensures { result ≡ report_by flags }
 {
-    let level = level_of(flags);
-    let strict = has(flags, STRICT);
-    let cards = has(flags, CARDS);
-    if has(flags, TABLES) {
-        Telling::TableReport {
-            level,
-            strict,
-            cards,
-        }
-    } else {
-        Telling::Report {
-            level,
-            strict,
-            cards,
-        }
+    Telling::Report {
+        level: level_of(flags),
+        strict: has(flags, STRICT),
+        cards: has(flags, CARDS),
+        tables: has(flags, TABLES),
     }
 }
 

@@ -132,7 +132,7 @@ fn do_command(alloc: Global, session: &mut Session, command: Command) -> Result<
     ensures kept { OnErr result (marked_of session.new ≡ marked_of session.old) }
 {
     match ready(session, &command, &mut ReadLog::none()) {
-        Ok(()) => answer_command(alloc, session, command),
+        Ok(()) => answer_command(alloc, session, false, command),
         // All data are in memory.
         Err(_) => unreachable!(),
     }

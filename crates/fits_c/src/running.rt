@@ -2,7 +2,7 @@
 ghost use Rattle.std.specs.Prelude.{◌≡◌, None};
 ghost use Rattle.fits_cli.specs.Terms.{asking};
 ghost use Rattle.fits_tell.specs.declared.telling.Telling.TheVariants as telling;
-ghost use Rattle.fits_c.specs.Flags.{report_by, terms_of};
+ghost use Rattle.fits_c.specs.Flags.{plainly, report_by, terms_of};
 ghost use Rattle.fits_c.specs.Given.{Gives, IsHandleOf};
 ghost use Rattle.fits_c.specs.Outcome.{CardsComeTo, EditComesTo, TellComesTo};
 
@@ -31,7 +31,7 @@ pub extern "C" fn fitsed_edit(
 #[unsafe(no_mangle)]
 pub extern "C" fn fitsed_ask(alloc: Global, file: &[u8], script: &[u8], given: &mut Given) -> u8
     requires { given.old.held.outcome ≡ None }
-    ensures { Gives (EditComesTo asking file.now script.now) result given.old given.new }
+    ensures { Gives (EditComesTo (asking plainly) file.now script.now) result given.old given.new }
 {
     give(alloc, edit(alloc, ASKING, file, script), given)
 }

@@ -1,5 +1,5 @@
 -- A run over a stored file, by what its reads gave.
-use Rattle.std.proofs.Common.{◌≡◌, ℕ, ◌+◌, List, [], ◌++◌, ap, subst, refl, sym}
+use Rattle.std.proofs.Common.{◌≡◌, ℕ, List, [], ◌++◌, ap, subst, refl, sym}
 use Rattle.std.proofs.lemmas.List.{append-nil}
 use Rattle.fits_stream.specs.Gave.{GaveAll}
 use Rattle.fits_stream.specs.Agree.{IsOf}

@@ -2,6 +2,7 @@
 use Rattle.std.specs.Prelude.{ℕ, ◌&&◌, nat_lt, Bool, false}
 use Rattle.fits_tell.specs.declared.level.Level.{Level}
 use Rattle.fits_tell.specs.declared.level.Level.TheVariants.{Quiet}
+use Rattle.fits_cli.specs.declared.manner.Manner.{Manner}
 use Rattle.fits_cli.specs.declared.saves.Saves.{Saves}
 use Rattle.fits_cli.specs.declared.saves.Saves.TheVariants.{Made, Nothing}
 use Rattle.fits_cli.specs.declared.terms.Terms.{Terms}
@@ -20,10 +21,10 @@ abbrev pub check_of : Saves → Level
 check_of Nothing = Quiet
 check_of (Made whole check) = check
 
--- plain terms: no sums are kept right, and a file is saved whatever its script did
+-- plain terms: no sums are kept right, no tables are kept, and a file is saved whatever its script did
 abbrev pub plain : Terms
-plain = record { sums = false; spare = false; saves = Made false Quiet }
+plain = record { sums = false; extended = false; tables = false; spare = false; saves = Made false Quiet }
 
 -- the terms of a run that saves nothing
-abbrev pub asking : Terms
-asking = record { sums = false; spare = false; saves = Nothing }
+abbrev pub asking : Manner → Terms
+asking manner = record { sums = false; extended = manner.extended; tables = manner.tables; spare = false; saves = Nothing }

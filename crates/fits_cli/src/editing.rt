@@ -11,15 +11,17 @@ ghost use Rattle.fits_cli.specs.Faults.{FaultCounts, RunCounts};
 ghost use Rattle.fits_cli.specs.Frame.{AnswersLeave, EndLeaves, LeavesAs, PrintsSome, ResultLeaves, ScriptAnswers};
 ghost use Rattle.fits_cli.specs.Output.{saved_bytes};
 ghost use Rattle.fits_cli.specs.Ends.{run, run_by, AreToldOf, EndsAs, EndsBy, OverFile, OverReads, RemarksBy, StopsBy};
+ghost use Rattle.fits_cli.specs.Reports.{read_reports};
 ghost use Rattle.fits_cli.specs.Running.{FlushesAnswers, IsAnsweredRun, OverAnswered, OverFirst, Steady};
 
 use crate::edited::{Edited, end_of};
 use crate::remarking::Silence;
+use crate::reports::Reports;
 use crate::runner::Runner;
 use crate::saves::Saves;
 use crate::script::answer_script;
 use crate::terms::{PLAIN, Terms};
-use fits_session::{Holder, Problem, Session};
+use fits_session::{Holder, Session};
 use fits_stream::{ReadLog, Sink, Source, Stored};
 use fits_tell::{End, Fault, flush, print_at_once};
 use std::alloc::Global;
@@ -185,15 +187,15 @@ fn answered<H: Holder + Drop, S: Source, O: Sink, E: Sink>(
     script: &mut S,
     out: &mut O,
     told: &mut Option<E>,
-) -> Result<Vec<Problem>, Fault>
+) -> Result<Reports, Fault>
     requires { runner.old.standing.line ≡ 1 }
     ensures ok { Steady H.whole runner.new.log → IfOk result (λ before. OverFirst (not H.whole) terms runner.old.standing
         (λ file after. IsAnsweredRun
         (run_by terms (not H.whole) file (S.state script.old) (O.state out.old))
         (run_by terms (not H.whole) after (S.state script.new) (O.state out.new))
         (option_map E.state told.old) (option_map E.state told.new)
-        runner.new.standing before.items)) }
-    ensures ordered { IfOk result (λ before. AllPairs IsListedBefore before.items) }
+        runner.new.standing (read_reports before))) }
+    ensures ordered { IfOk result (λ before. AllPairs IsListedBefore before.problems.items) }
     ensures err { Steady H.whole runner.new.log → IfErr result (λ fault. OverFirst (not H.whole) terms runner.old.standing
         (λ file after. StopsBy
         (run_by terms (not H.whole) file (S.state script.old) (O.state out.old))
@@ -211,7 +213,7 @@ fn answered<H: Holder + Drop, S: Source, O: Sink, E: Sink>(
         (O.state out.old) (O.state out.new)) }
     ensures follows { Follows runner.old.log runner.new.log }
 {
-    let before = runner.report_for(alloc, terms.saves.check())?;
+    let before = runner.report_for(alloc, terms.saves.check(), terms.tables)?;
     let answered = answer_script(alloc, runner, script, out, told);
     flush_answers(answered, out)?;
     Ok(before)
@@ -242,13 +244,13 @@ fn save_result<H: Holder + Drop, P: Sink, O: Sink>(
     alloc: Global,
     terms: Terms,
     runner: &mut Runner<H>,
-    before: &[Problem],
+    before: &Reports,
     saved: &mut P,
     out: &mut O,
 ) -> Result<Edited, Fault>
-    requires { AllPairs IsListedBefore before.now }
+    requires { AllPairs IsListedBefore before.now.problems.items }
     ensures ends { Steady H.whole runner.new.log → OverAnswered terms (not H.whole)
-        runner.old.standing before.now (O.state out.old) (O.state out.new)
+        runner.old.standing (read_reports before.now) (O.state out.old) (O.state out.new)
         (λ old new. EndsBy old new (P.state saved.old) (P.state saved.new) result) }
     ensures quiet { OnOk result (runner.new.log.failures ≡ runner.old.log.failures) }
     ensures counted { IfErr result (FaultCounts runner.old.log.failures runner.new.log.failures) }
@@ -267,7 +269,7 @@ fn save_result<H: Holder + Drop, P: Sink, O: Sink>(
             if runner.is_held_back(terms.saves) {
                 return Ok(Edited::KeptBack(runner.refused()));
             }
-            let found = runner.errors_since(alloc, check, before)?;
+            let found = runner.errors_since(alloc, check, terms.tables, before)?;
             if found.are_some() {
                 print_at_once(out, &found.text)?;
                 return Ok(Edited::Unsound {

@@ -10,7 +10,9 @@ mod edited;
 mod editing;
 mod kept_line;
 mod limits;
+mod manner;
 mod new_errors;
+mod new_tables;
 mod pixel_answers;
 mod places_line;
 mod readying;
@@ -18,9 +20,11 @@ mod reason;
 mod reasons;
 mod remarking;
 mod reply;
+mod reports;
 mod runner;
 mod saves;
 mod script;
+mod table_problems;
 mod terms;
 mod value_line;
 
@@ -33,6 +37,7 @@ pub use fits_tell::{
     run_cards, run_list, run_sum, run_telling, run_verify,
 };
 pub use limits::SCRIPT_LIMIT;
+pub use manner::Manner;
 pub use readying::ready;
 pub use saves::Saves;
 pub use terms::Terms;

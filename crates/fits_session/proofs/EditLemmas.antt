@@ -229,8 +229,8 @@ module _ (hdus : List HduState) (tail : List ℕ) (h i : ℕ) (edit : HduEdit) (
       ∙ ap (λ k. changed_of k (kept_after edit) (kept_of hdus)) (sym named)
 
 -- a file and which of its HDUs are kept
-same_marked : (hdus us : List HduState) (tail : List ℕ) (it : Marked) → file_of (state_of us tail) ≡ it.file → kept_of us ≡ it.kept → marked_of (state_of us tail) ≡ it
-same_marked hdus us tail it file kept = ap (λ f. let made : Marked = record { file = f; kept = kept_of us } in made) file ∙ ap (λ k. let made : Marked = record { file = it.file; kept = k } in made) kept
+same_marked : (hdus us : List HduState) (tail : List ℕ) (it : Marked) → file_of (state_of us tail) ≡ it.file → kept_of us ≡ it.kept → marked_of (state_of us tail) ≡ record { file = it.file; kept = it.kept; tables = false }
+same_marked hdus us tail it file kept = ap (λ f. let made : Marked = record { file = f; kept = kept_of us; tables = false } in made) file ∙ ap (λ k. let made : Marked = record { file = it.file; kept = k; tables = false } in made) kept
 
 -- what was made and stamped may be followed
 follow_few : (stamps : Bool) (edit : HduEdit) (made : Result HduParts Refusal) (new : HduParts) (most : ℕ) → then_stamped stamps made ≡ Ok new → most ≤ follow_reads edit (Ok new) → most ≤ follow_reads edit made
@@ -248,7 +248,7 @@ edits_made hdus left tail h i edit bytes count n most old new x p follows few =
     let kept = follows.kept ∙ marks_made hdus tail h i edit bytes count old new (Ok n) p p.edits.mark in
     record {
       accepted = tests_are hdus tail h i edit bytes count old new (Ok n) p ∙ p.edits.accepted;
-      ok = same_marked hdus left tail (record { file = marked_file_after (marked_of (state_of hdus tail)) (Hdu h edit); kept = marks_after (kept_of hdus) (Hdu h edit) }) file kept;
+      ok = same_marked hdus left tail (record { file = marked_file_after (marked_of (state_of hdus tail)) (Hdu h edit); kept = marks_after (kept_of hdus) (Hdu h edit); tables = false }) file kept;
       refused = tt;
       err = tt;
       work = works hdus tail h i edit bytes count old new (Ok n) p most left follows (follow_few (stamp_follows edit old.kept) edit (hdu_made (is_primary old.header.shape.class) edit (parts_of old)) (parts_of new) most p.edits.ok few);

@@ -41,10 +41,10 @@ pub file_with : (us vs : List HduParts) (tail : List ℕ) → us ≡ vs → (let
 file_with us vs tail same = ap (λ (hdus : List HduParts). let file : FileParts = record { hdus = hdus; tail = tail } in file) same
 
 -- and with the same marks too
-pub marked_with : (us vs : List HduParts) (tail : List ℕ) (a b : List Bool) → us ≡ vs → a ≡ b → (let it : Marked = record { file = record { hdus = us; tail = tail }; kept = a } in it) ≡ record { file = record { hdus = vs; tail = tail }; kept = b }
+pub marked_with : (us vs : List HduParts) (tail : List ℕ) (a b : List Bool) → us ≡ vs → a ≡ b → (let it : Marked = record { file = record { hdus = us; tail = tail }; kept = a; tables = false } in it) ≡ record { file = record { hdus = vs; tail = tail }; kept = b; tables = false }
 marked_with us vs tail a b same marks =
-    ap (λ (hdus : List HduParts). let it : Marked = record { file = record { hdus = hdus; tail = tail }; kept = a } in it) same
-    ∙ ap (λ (kept : List Bool). let it : Marked = record { file = record { hdus = vs; tail = tail }; kept = kept } in it) marks
+    ap (λ (hdus : List HduParts). let it : Marked = record { file = record { hdus = hdus; tail = tail }; kept = a; tables = false } in it) same
+    ∙ ap (λ (kept : List Bool). let it : Marked = record { file = record { hdus = vs; tail = tail }; kept = kept; tables = false } in it) marks
 
 -- what holds of HDUs seen another way holds of them
 pub all_seen : (P : HduState → Type 0) (see : HduState → HduState) → ((one : HduState) → P (see one) → P one) → (hdus : List HduState) → All P (map see hdus) → All P hdus

@@ -186,10 +186,10 @@ file_of-left hdus tail h i at =
     ap (λ (us : List HduParts). let file : FileParts = record { hdus = us; tail = tail } in file) (hdus_of-left hdus i ∙ ap (remove (hdus_of hdus)) index)
 
 -- a session's file and which of its HDUs are kept stamped
-pub marked_both : (session : SessionState) (file : FileParts) (kept : List Bool) → file_of session ≡ file → kept_of session.hdus ≡ kept → marked_of session ≡ (let it : Marked = record { file = file; kept = kept } in it)
+pub marked_both : (session : SessionState) (file : FileParts) (kept : List Bool) → file_of session ≡ file → kept_of session.hdus ≡ kept → marked_of session ≡ (let it : Marked = record { file = file; kept = kept; tables = false } in it)
 marked_both session file kept p q =
-    ap (λ (f : FileParts). let it : Marked = record { file = f; kept = kept_of session.hdus } in it) p
-    ∙ ap (λ (k : List Bool). let it : Marked = record { file = file; kept = k } in it) q
+    ap (λ (f : FileParts). let it : Marked = record { file = f; kept = kept_of session.hdus; tables = false } in it) p
+    ∙ ap (λ (k : List Bool). let it : Marked = record { file = file; kept = k; tables = false } in it) q
 
 -- the tests of a new image, by what each finds
 abbrev tests_of : Bool → Bool → Bool → Option Refusal → Option Refusal

@@ -27,7 +27,8 @@ use Rattle.fits_hdu.specs.declared.keyword.KeywordFault.TheVariants as keyword
 use Rattle.fits_session.specs.Edit.{hdu_of}
 use Rattle.fits_making.specs.HduEdit.{pixels_made, refusal_of_pixels, shaped}
 use Rattle.fits_passing.specs.File.{IsFile, is_primary_hdu}
-use Rattle.fits_session.specs.Query.{array_in, by_shape, card_count_in, datasum_in, kind_in, rect_in, shape_in, some_shape, stats_in, verdicts_in, value_in, positions_in, names_in, in_hdu, or_refused, PlacesFail, QueryFails}
+use Rattle.fits_session.specs.Query.{array_in, by_shape, card_count_in, card_in, datasum_in, kind_in, rect_in, shape_in, some_shape, stats_in, verdicts_in, value_in, positions_in, names_in, in_hdu, or_refused, PlacesFail, QueryFails}
+use Rattle.fits_hdu.specs.State.{card_placed}
 use Rattle.fits_making.specs.Refusal.{refusal_of_keyword}
 use Rattle.fits_making.specs.Keeping.{are_right, both_right, is_right}
 use Rattle.fits_session.specs.Marked.{is_kept, kept_in}
@@ -40,6 +41,10 @@ use Rattle.fits_session.proofs.StateLemmas.{IsHduAt, hdu_of-there, described_the
 -- how many cards HDU h has
 pub count_there : (hdus : List HduState) (tail : List ℕ) (h i n : ℕ) (hdu : HduState) → IsHduAt hdus h i hdu → n ≡ length hdu.header.header.cards → Path (Result ℕ Refusal) (Ok n) (card_count_in (file_of (state_of hdus tail)) h)
 count_there hdus tail h i n hdu at count = ap Ok count ∙ sym (ap (in_hdu (λ (u : HduParts). Ok (length u.header.cards))) (hdu_of-there hdus tail h i hdu at))
+
+-- its card at a place
+pub card_there : (hdus : List HduState) (tail : List ℕ) (h i place : ℕ) (hdu : HduState) → IsHduAt hdus h i hdu → card_in (file_of (state_of hdus tail)) h place ≡ ok_or (card_placed hdu.header.header.cards place) refusal.NoCard
+card_there hdus tail h i place hdu at = ap (in_hdu (λ (u : HduParts). ok_or (card_placed u.header.cards place) refusal.NoCard)) (hdu_of-there hdus tail h i hdu at)
 
 -- its shape
 pub shape_there : (hdus : List HduState) (tail : List ℕ) (h i : ℕ) (hdu : HduState) (shape : Shape) → IsFile (file_of (state_of hdus tail)) → IsHduAt hdus h i hdu → shape_of (is_primary hdu.header.shape.class) hdu.header.header.cards ≡ Ok hdu.header.shape → shape ≡ hdu.header.shape
@@ -72,7 +77,7 @@ value_fails hdus tail h i hdu name keyword.BadValue at p = value_err hdus tail h
 value_fails hdus tail h i hdu name keyword.Memory at p = rw (value_there hdus tail h i hdu name at) (says_something (keyword_value hdu.header.header.cards name) p)
 
 -- what a query that HDU h answers says
-answer_there : {X : Type 0} (answer : HduParts → Result X Refusal) (hdus : List HduState) (tail : List ℕ) (h i : ℕ) (hdu : HduState) → IsHduAt hdus h i hdu → in_hdu answer (hdu_of (file_of (state_of hdus tail)) h) ≡ answer (parts_of hdu)
+pub answer_there : {X : Type 0} (answer : HduParts → Result X Refusal) (hdus : List HduState) (tail : List ℕ) (h i : ℕ) (hdu : HduState) → IsHduAt hdus h i hdu → in_hdu answer (hdu_of (file_of (state_of hdus tail)) h) ≡ answer (parts_of hdu)
 answer_there answer hdus tail h i hdu at = ap (in_hdu answer) (hdu_of-there hdus tail h i hdu at)
 
 -- what it answers by the shape that its cards describe

@@ -266,8 +266,8 @@ works_nowhere hdus h Much p =
 -- the file and its marks stay where the HDU that was written has the same parts and mark
 pub marked_of-same : (hdus : List HduState) (tail : List ℕ) (h i : ℕ) (old new : HduState) → IsHduAt hdus h i old → parts_of new ≡ parts_of old → new.kept ≡ old.kept → marked_of (state_of (set hdus i new) tail) ≡ marked_of (state_of hdus tail)
 marked_of-same hdus tail h i old new at same mark =
-    ap (λ (file : FileParts). let it : Marked = record { file = file; kept = kept_of (set hdus i new) } in it) (file_of-same hdus tail h i old new at same)
-    ∙ ap (λ kept. let it : Marked = record { file = file_of (state_of hdus tail); kept = kept } in it) (kept_of-same hdus i old new at.index.within at.is mark)
+    ap (λ (file : FileParts). let it : Marked = record { file = file; kept = kept_of (set hdus i new); tables = false } in it) (file_of-same hdus tail h i old new at same)
+    ∙ ap (λ kept. let it : Marked = record { file = file_of (state_of hdus tail); kept = kept; tables = false } in it) (kept_of-same hdus i old new at.index.within at.is mark)
 
 -- a query read cards of HDU h
 pub asked : (hdus : List HduState) (tail : List ℕ) (h i most : ℕ) (old new : HduState) → IsHduAt hdus h i old → ReadsUpTo old new most → Asks h most (state_of hdus tail) (state_of (set hdus i new) tail)

@@ -1,3 +1,4 @@
+pub mod ChangedLemmas
 pub mod CodeLemmas
 pub mod ColumnNameLemmas
 pub mod ColumnsLemmas
@@ -8,7 +9,10 @@ pub mod ElementsLemmas
 pub mod FieldLemmas
 pub mod FieldsLemmas
 pub mod FormLemmas
+pub mod KeepingLemmas
+pub mod KeptLaws
 pub mod LetterLemmas
+pub mod MarkLemmas
 pub mod MarkingLemmas
 pub mod MisfitLemmas
 pub mod NameLemmas

@@ -1,14 +1,15 @@
 -- Names that are one have one number.
-use Rattle.std.proofs.Common.{◌≡◌, ℕ, ◌+◌, ◌<◌, ◌≤◌, Bool, true, false, List, ◌∷◌, length, drop, get_or, Option, None, Some, ap, sym, ◌∙◌, suc, arith, inl, inr}
+use Rattle.std.proofs.Common.{◌≡◌, ℕ, ◌+◌, ◌<◌, ◌≤◌, ◌||◌, Bool, true, false, List, [], ◌∷◌, length, drop, get_or, Option, None, Some, refl, ap, sym, ◌∙◌, suc, arith, inl, inr}
 use Rattle.std.specs.Prelude.{◌&&◌, not}
 use Rattle.std.specs.Char.{to_ascii_lowercase}
-use Rattle.std.specs.List.{list_all}
+use Rattle.std.specs.List.{list_all, list_any}
 use Rattle.std.specs.Str.{bytes_eq}
 use Rattle.std.proofs.Math.Seq.{drop-cons}
-use Rattle.std.proofs.lemmas.Bool.{cases_Bool}
+use Rattle.std.proofs.lemmas.Bool.{and_parts, cases_Bool}
 use Rattle.std.proofs.lemmas.List.{drop_all}
 use Rattle.std.proofs.lemmas.Slice.Eq.{bytes_eq-Decides}
 use Rattle.fits_value.specs.Characters.{is_space}
+use Rattle.fits_table.specs.Marks.{is_marked, is_name_marked}
 use Rattle.fits_table.specs.Name.{are_one, is_one_name, lowered}
 use Rattle.fits_table.specs.Print.{print_from, print_of, print_of_title, print_with}
 
@@ -34,6 +35,24 @@ apart one other a b is be differ = elim (cases_Bool (are_one one other)) [
 ]
 
 pub ruleset print_steps = (apart)
+
+-- a name whose number isn't marked isn't one that is
+unmarked : (marks : List Bool) (other name : Option (List ℕ)) → is_name_marked marks other ≡ true → is_marked marks (print_of_title name) ≡ false → are_one other name ≡ false
+unmarked marks None name marked fails = refl
+unmarked marks (Some text) name marked fails = elim (cases_Bool (are_one (Some text) name)) [
+  | inl alike ↦
+      let clash : true ≡ false = sym marked ∙ (ap (is_marked marks) (same_print (Some text) name alike) ∙ fails) in
+      cc
+  | inr no_twin ↦ no_twin
+]
+
+-- nor one of those that are
+pub none_marked : (marks : List Bool) (names : List (Option (List ℕ))) (name : Option (List ℕ)) (number : ℕ) → number ≡ print_of_title name → list_all (is_name_marked marks) names ≡ true → is_marked marks number ≡ false → list_any (λ other. are_one other name) names ≡ false
+none_marked marks [] name number is all fails = refl
+none_marked marks (other ∷ names) name number is all fails =
+    let both = and_parts (is_name_marked marks other) (list_all (is_name_marked marks) names) all in
+    ap (λ b. b || list_any (λ other. are_one other name) names) (unmarked marks other name both.0 (ap (is_marked marks) (sym is) ∙ fails))
+    ∙ none_marked marks names name number is both.1 fails
 
 -- the number so far, and that of what follows
 pub print_next : (text : List ℕ) (i d print : ℕ) → i < length text → print_from print (lowered (drop i text)) ≡ print_of (lowered text)

@@ -8,6 +8,7 @@ use Rattle.fits_card.specs.Card.{keyword_name, has_value}
 use Rattle.fits_codes.specs.Keywords.{is_count, is_one_of}
 use Rattle.fits_rules.specs.Lead.{lead_card}
 use Rattle.fits_value.specs.Characters.{is_digit, is_space}
+use Rattle.fits_value.specs.Number.{value_of}
 use Rattle.fits_value.specs.NumberSteps.{after_digits}
 use Rattle.fits_table.specs.Numeral.{numeral}
 use Rattle.fits_table.specs.declared.column_leads.ColumnLeads.{ColumnLeads}
@@ -45,6 +46,10 @@ unfoldable pub column_number : List ℕ → Option ℕ
 column_number name =
     if is_one_of column_roots (take 5 name) then count_after (drop 5 name)
     else (if bytes_eq (take 4 name) (codes "TDIM") then count_after (drop 4 name) else None)
+
+-- the number of the digits that three bytes begin with
+abbrev pub front_number : ℕ → ℕ → ℕ → ℕ
+front_number first second third = value_of (take_while is_digit (first ∷ second ∷ third ∷ []))
 
 -- a number is one after so many
 abbrev pub is_after : ℕ → Option ℕ → Bool

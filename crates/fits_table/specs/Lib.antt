@@ -10,8 +10,10 @@ pub mod Form
 pub mod FormSteps
 pub mod Format
 pub mod Judged
+pub mod Kept
 pub mod Laws
 pub mod Leads
+pub mod Marks
 pub mod Misfit
 pub mod Name
 pub mod Numeral
@@ -20,3 +22,4 @@ pub mod Table
 pub mod TableCode
 pub mod TableKind
 pub mod TableMark
+pub mod Work

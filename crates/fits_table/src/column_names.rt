@@ -1,13 +1,13 @@
 //! The names of the keywords of columns.
-ghost use Rattle.std.specs.Prelude.{◌≡◌, ◌<◌, codes};
+ghost use Rattle.std.specs.Prelude.{◌≡◌, ℕ, false, codes};
 ghost use Rattle.std.specs.List.{list_all};
 ghost use Rattle.fits_codes.specs.Keywords.{is_count, is_one_of};
+ghost use Rattle.fits_rules.specs.Shape.{axis_name};
 ghost use Rattle.fits_value.specs.Characters.{is_space};
-ghost use Rattle.fits_table.specs.Leads.{column_name, column_roots, count_after, column_number, is_after, is_past};
+ghost use Rattle.fits_table.specs.Leads.{column_name, column_roots, count_after, column_number, is_after, is_past, front_number};
 
 use crate::numerals::{numeral, split_digits};
 use fits_card::{Card, Name};
-use fits_rules::axis_name;
 
 /// Roots of five letters.
 const ROOTS: [[u8; 5]; 12] = [
@@ -15,22 +15,20 @@ const ROOTS: [[u8; 5]; 12] = [
     *b"TDMIN", *b"TDMAX", *b"TLMIN", *b"TLMAX",
 ];
 
-/// The keyword of column `n` that has this root, for `n` below 1000.
-pub(crate) fn column_name(root: &[u8; 5], n: usize) -> Name
-    requires { n < 1000 }
-    ensures { result ≡ column_name root.now n }
+/// The keyword of a column that has this root, by that of the axis of the same number.
+pub(crate) fn column_name(root: &[u8; 5], axis: &Name) -> Name
+    ensures { (n : ℕ) → axis.now ≡ axis_name n → result ≡ column_name root.now n }
 {
-    let [_, _, _, _, _, first, second, third] = axis_name(n).0;
+    let [_, _, _, _, _, first, second, third] = axis.0;
     let [a, b, c, d, e] = *root;
     Name([a, b, c, d, e, first, second, third])
 }
 
-/// The keyword TDIMn, for `n` below 1000.
-pub(crate) fn dimensions_name(n: usize) -> Name
-    requires { n < 1000 }
-    ensures { result ≡ column_name (codes "TDIM") n }
+/// The keyword TDIMn, by that of the axis of the same number.
+pub(crate) fn dimensions_name(axis: &Name) -> Name
+    ensures { (n : ℕ) → axis.now ≡ axis_name n → result ≡ column_name (codes "TDIM") n }
 {
-    let [_, _, _, _, _, first, second, third] = axis_name(n).0;
+    let [_, _, _, _, _, first, second, third] = axis.0;
     Name([b'T', b'D', b'I', b'M', first, second, third, b' '])
 }
 
@@ -97,19 +95,41 @@ fn is_after(fields: u64, number: Option<u64>) -> bool
     }
 }
 
+// The number of the digits that three bytes begin with.
+fn front_number(first: u8, second: u8, third: u8) -> u64
+    ensures { result ≡ front_number first second third }
+{
+    if !first.is_ascii_digit() {
+        return 0;
+    }
+    let number = (first - b'0') as u64;
+    if !second.is_ascii_digit() {
+        return number;
+    }
+    let number = number * 10 + (second - b'0') as u64;
+    if !third.is_ascii_digit() {
+        return number;
+    }
+    number * 10 + (third - b'0') as u64
+}
+
+// Whether a keyword may be that of a column after so many, by its digits alone.
+fn may_be_past(fields: u64, name: &Name) -> bool
+    ensures { result ≡ false → is_after fields (column_number name.now) ≡ false }
+{
+    let [_, _, _, _, fifth, first, second, third] = name.0;
+    fifth.is_ascii_digit() || fields < front_number(first, second, third)
+}
+
 /// Whether a card has a value for a column after so many.
 #[tactic(auto, using(crate::proofs::ColumnNameLemmas::past_steps))]
 pub(crate) fn is_past(fields: u64, card: &Card) -> bool
     ensures { result ≡ is_past fields card.now }
 {
-    if !card.has_value() {
+    let name = card.name();
+    // Most numbers are those of columns that are there: neither the value nor the root is looked at.
+    if !may_be_past(fields, &name) {
         return false;
     }
-    let name = card.name();
-    // Most numbers are those of columns that are there: the root isn't looked at.
-    let (_, behind_five) = name.0.split_at(5);
-    let (_, behind_four) = name.0.split_at(4);
-    let may = is_after(fields, count_after(behind_five))
-        | is_after(fields, count_after(behind_four));
-    may && is_after(fields, column_number(&name))
+    card.has_value() && is_after(fields, column_number(&name))
 }

@@ -1,8 +1,11 @@
-ghost use Rattle.std.specs.Prelude.{◌≡◌, option_and_then};
+ghost use Rattle.std.specs.Prelude.{◌≡◌, ℕ, List, Option, false, true, option_and_then};
+ghost use Rattle.std.specs.List.{list_all, list_any};
 ghost use Rattle.fits_rules.specs.Reads.{string_said};
+ghost use Rattle.fits_table.specs.Marks.{is_marked, is_name_marked};
 ghost use Rattle.fits_table.specs.Name.{are_one, is_odd_name, lowered};
 ghost use Rattle.fits_table.specs.Print.{print_of, print_of_title};
 
+use crate::marks::Marks;
 use crate::names::{is_one_name, is_plain_name};
 use crate::said::string_said;
 use fits_card::Card;
@@ -66,6 +69,26 @@ impl Title {
             (Some(one), Some(other)) => is_one_name(one.as_bytes(), other.as_bytes()),
             _ => false,
         }
+    }
+
+    /// Marks the number of the name, if one is said.
+    pub fn mark(&self, marks: &mut Marks)
+        ensures marked { is_name_marked marks.new self.now ≡ true }
+        ensures kept { (other : ℕ) → is_marked marks.old other ≡ true
+            → is_marked marks.new other ≡ true }
+    {
+        if self.text.is_some() {
+            marks.add(self.print);
+        }
+    }
+
+    /// Whether one of the names that were marked may be this one.
+    pub fn may_be_in(&self, marks: &Marks) -> bool
+        ensures { (names : List (Option (List ℕ)))
+            → list_all (is_name_marked marks.now) names ≡ true → result ≡ false
+            → list_any (λ other. are_one other self.now) names ≡ false }
+    {
+        marks.has(self.print)
     }
 }
 

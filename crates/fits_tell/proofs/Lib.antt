@@ -1,11 +1,16 @@
+pub mod CalledLemmas
 pub mod CardLemmas
+pub mod DoubledLemmas
 pub mod ExitLemmas
+pub mod ListedLemmas
 pub mod ListingLemmas
 pub mod NumberedLemmas
 pub mod PixelLineLemmas
+pub mod PlacedLemmas
 pub mod ProblemCardLemmas
 pub mod ReportLemmas
 pub mod StatingLemmas
+pub mod SummaryLemmas
 pub mod SummingLemmas
 pub mod TableReportLemmas
 pub mod TellingLemmas

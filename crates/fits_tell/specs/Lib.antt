@@ -1,11 +1,15 @@
+pub mod Called
 pub mod Cards
 pub mod Faults
+pub mod Listed
 pub mod Listing
 pub mod Numbered
 pub mod Patterns
 pub mod PixelLines
+pub mod Placed
 pub mod Report
 pub mod Stating
+pub mod Summary
 pub mod Summing
 pub mod TableReport
 pub mod Telling

@@ -11,10 +11,11 @@ use Rattle.fits_passing.specs.Report.{report_of}
 use Rattle.fits_passing.specs.declared.open_fault.OpenFault.{OpenFault}
 use Rattle.fits_passing.specs.declared.problem.Problem.{Problem}
 use Rattle.fits_tell.specs.Faults.{status_of_fault}
-use Rattle.fits_tell.specs.Listing.{listing}
-use Rattle.fits_tell.specs.Report.{report_text, status_of_report}
+use Rattle.fits_tell.specs.Listing.{listing, long_listing}
+use Rattle.fits_tell.specs.Listed.{listed_text, status_of_report}
+use Rattle.fits_tell.specs.Summary.{summary_text}
 use Rattle.fits_tell.specs.Stating.{stating}
-use Rattle.fits_tell.specs.TableReport.{status_of_table_report, table_report_of, table_report_text}
+use Rattle.fits_tell.specs.TableReport.{listed_report}
 use Rattle.fits_tell.specs.Summing.{status_of_sums, summing, wrong_summing}
 use Rattle.fits_tell.specs.Untouched.{untouched}
 use Rattle.fits_tell.specs.declared.end.End.{End}
@@ -27,7 +28,7 @@ use Rattle.fits_tell.specs.declared.telling.Telling.TheVariants as telling
 abbrev pub told_headers : Bool → FileParts → List (List (List ℕ))
 told_headers cards file = if cards then cards_of file.hdus else []
 
--- these are the report of the file that bytes are, and the headers that it is told with
+-- these are the report of the file that bytes are, and its headers where they are asked for
 pub record IsToldReport (cards : Bool) (report : List Problem) (headers : List (List (List ℕ))) (bytes : List ℕ) : Type 0 where
   pub file : FileParts
   pub opened : IsFileOf bytes file
@@ -37,12 +38,13 @@ pub record IsToldReport (cards : Bool) (report : List Problem) (headers : List (
 -- the text of a file
 abbrev pub text_of : Telling → FileParts → List ℕ
 text_of telling.List file = listing file
+text_of telling.LongList file = long_listing file
 text_of telling.Sums file = summing file
 text_of telling.WrongSums file = wrong_summing file
 text_of telling.Untouched file = untouched file
 text_of telling.Statistics file = stating file
-text_of (telling.Report level strict cards) file = report_text level (told_headers cards file) (report_of file)
-text_of (telling.TableReport level strict cards) file = table_report_text level (told_headers cards file) (table_report_of file)
+text_of (telling.Report level strict cards tables) file = listed_text level (told_headers cards file) (listed_report tables file)
+text_of (telling.Summary level strict tables) file = summary_text level (listed_report tables file)
 
 -- what a source gave to its end is the file of these parts
 abbrev pub Opens : SourceState → SourceState → FileParts → Type 0
@@ -51,12 +53,13 @@ Opens old new parts = GaveWhole old new (λ bytes. IsFileOf bytes parts)
 -- the status of a run that has printed it
 abbrev pub status_of_text : Telling → FileParts → ℕ
 status_of_text telling.List file = 0
+status_of_text telling.LongList file = 0
 status_of_text telling.Sums file = 0
 status_of_text telling.WrongSums file = status_of_sums file
 status_of_text telling.Untouched file = 0
 status_of_text telling.Statistics file = 0
-status_of_text (telling.Report level strict cards) file = status_of_report strict (report_of file)
-status_of_text (telling.TableReport level strict cards) file = status_of_table_report strict (table_report_of file)
+status_of_text (telling.Report level strict cards tables) file = status_of_report strict (listed_report tables file)
+status_of_text (telling.Summary level strict tables) file = status_of_report strict (listed_report tables file)
 
 -- the text is printed and flushed
 pub record TextIsPrinted (kind : Telling) (file file_after : SourceState) (out out_after : SinkState) (status : ℕ) : Type 0 where

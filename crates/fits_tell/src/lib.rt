@@ -1,6 +1,8 @@
 //! The texts of a file, and the runs that read it once and print one.
 #![tactic(auto)]
 
+mod called;
+mod called_outline;
 mod card_choice;
 mod card_lines;
 mod card_place;
@@ -11,7 +13,9 @@ mod fault;
 mod file_fault;
 mod level;
 mod listed;
+mod listed_lines;
 mod listing;
+mod long_listing;
 mod name_pattern;
 mod pixel_lines;
 mod printing;
@@ -21,13 +25,13 @@ mod report_lines;
 mod reread;
 mod shown_card;
 mod stating;
+mod summary;
 mod summing;
 mod table_problem;
 mod table_report;
 mod telling;
 mod untouched;
 mod verifying;
-mod verifying_tables;
 
 pub use card_choice::CardChoice;
 pub use card_place::CardPlace;
@@ -36,13 +40,16 @@ pub use end::{End, one_if};
 pub use fault::Fault;
 pub use file_fault::FileFault;
 pub use level::Level;
+pub use listed::Listed;
+pub use listed_lines::push_table_problem;
 pub use listing::run_list;
 pub use name_pattern::NamePattern;
 pub use pixel_lines::{statistics_line, sums_line, values_line};
 pub use printing::{flush, print, print_at_once};
-pub use pushing::{push_both, push_number, push_offsets};
+pub use pushing::{push_both, push_doubled, push_number, push_offsets};
 pub use report_lines::{push_problem, report_text};
 pub use reread::Reread;
 pub use summing::run_sum;
+pub use table_problem::TableProblem;
 pub use telling::{Telling, run_telling};
 pub use verifying::run_verify;

@@ -2,7 +2,8 @@
 ghost use Rattle.std.specs.Prelude.{◌≡◌, ◌++◌, ◌≤◌, ◌+◌, IfOk, IfErr, OnOk};
 ghost use Rattle.fits_stream.specs.Stream.{Prints};
 ghost use Rattle.fits_passing.specs.declared.limits.TheConstants.{FILE_LIMIT};
-ghost use Rattle.fits_tell.specs.Listing.{axes_text, class_text, hdu_line, line_back, line_front, more_axes_text, outlined_len, outlined_lines};
+ghost use Rattle.fits_tell.specs.Listing.{axes_text, class_text, hdu_line, line_back, line_front, more_axes_text, outlined_len, outlined_line, plain_line};
+ghost use Rattle.fits_tell.specs.Placed.{placed_len, placed_lines};
 ghost use Rattle.fits_tell.specs.Telling.{PrintingStops, TextEndsAs, TextIsTold, TextStopsBy};
 
 use crate::end::End;
@@ -41,43 +42,65 @@ pub(crate) fn list<F: Source, O: Sink>(
 
 // Prints a line for each outline, of HDUs that stand one after another.
 fn print_outlines<O: Sink>(alloc: Global, outlines: &[Outline], out: &mut O) -> Result<(), Fault>
-    requires { outlined_len outlines.now ≤ FILE_LIMIT }
-    ensures ok { OnOk result (Prints (outlined_lines 1 0 outlines.now)
+    requires { placed_len outlined_len outlines.now ≤ FILE_LIMIT }
+    ensures ok { OnOk result (Prints (placed_lines plain_line outlined_len 1 0 outlines.now)
         (O.state out.old) (O.state out.new)) }
-    ensures err { IfErr result (PrintingStops (outlined_lines 1 0 outlines.now)
+    ensures err { IfErr result (PrintingStops (placed_lines plain_line outlined_len 1 0 outlines.now)
         (O.state out.old) (O.state out.new)) }
 {
     let mut line = Vec::new(alloc);
     let mut start = 0u64;
     for (i, it) in outlines.iter().enumerate() {
-        let data_start = start + it.header_len as u64;
-        let at = HduOffsets {
-            header_start: start,
-            data_start,
-            hdu_end: data_start + it.data_len as u64,
-        };
-        line.clear();
-        push_line(&mut line, i + 1, it.card_count, at, &it.shape)?;
-        print(out, &line)?;
-        start = at.hdu_end;
+        start = print_line(i + 1, start, it, b"", &mut line, out)?;
     }
     Ok(())
 }
 
-// `hdu N CLASS bitpix B axes A cards C at HEADER DATA END`
+/// Prints the line of an HDU that begins here, by its outline and with these words, and says where
+/// the HDU ends. `line` is room for it.
+pub(crate) fn print_line<O: Sink>(
+    number: usize,
+    start: u64,
+    it: &Outline,
+    words: &[u8],
+    line: &mut Vec<u8>,
+    out: &mut O,
+) -> Result<u64, Fault>
+    requires { start + outlined_len it.now ≤ FILE_LIMIT }
+    ensures ok { OnOk result (Prints (outlined_line words.now number start it.now)
+        (O.state out.old) (O.state out.new)) }
+    ensures end { IfOk result (λ end. end ≡ start + outlined_len it.now) }
+    ensures err { IfErr result (PrintingStops (outlined_line words.now number start it.now)
+        (O.state out.old) (O.state out.new)) }
+{
+    let data_start = start + it.header_len as u64;
+    let at = HduOffsets {
+        header_start: start,
+        data_start,
+        hdu_end: data_start + it.data_len as u64,
+    };
+    line.clear();
+    push_line(line, number, it.card_count, words, at, &it.shape)?;
+    print(out, line.as_slice())?;
+    Ok(at.hdu_end)
+}
+
+// `hdu N CLASS bitpix B axes A cards C at HEADER DATA END`, with these words before ` at`
 #[tactic(auto, using(crate::proofs::ListingLemmas::whole_steps))]
 fn push_line(
     line: &mut Vec<u8>,
     number: usize,
     cards: usize,
+    words: &[u8],
     at: HduOffsets,
     shape: &Shape,
 ) -> Result<(), AllocError>
-    ensures { OnOk result (line.new.items ≡ line.old.items ++ hdu_line number cards at shape.now) }
+    ensures { OnOk result (line.new.items
+        ≡ line.old.items ++ hdu_line number cards words.now at shape.now) }
 {
     push_front(line, number, shape.class, shape.bitpix)?;
     push_axes(line, shape.axes.as_slice())?;
-    push_back(line, cards, at)
+    push_back(line, cards, words, at)
 }
 
 // `hdu N CLASS bitpix B axes `
@@ -95,12 +118,17 @@ fn push_front(
     line.extend_from_slice(b" axes ")
 }
 
-// ` cards C at HEADER DATA END`
-fn push_back(line: &mut Vec<u8>, cards: usize, at: HduOffsets) -> Result<(), AllocError>
-    ensures { OnOk result (line.new.items ≡ line.old.items ++ line_back cards at) }
+// ` cards C at HEADER DATA END`, with these words before ` at`
+fn push_back(
+    line: &mut Vec<u8>,
+    cards: usize,
+    words: &[u8],
+    at: HduOffsets,
+) -> Result<(), AllocError>
+    ensures { OnOk result (line.new.items ≡ line.old.items ++ line_back cards words.now at) }
 {
     push_number(line, b" cards ", cards as u64)?;
-    line.extend_from_slice(b" at ")?;
+    push_both(line, words, b" at ")?;
     push_offsets(line, at)?;
     line.extend_from_slice(b"\n")
 }

@@ -52,9 +52,9 @@ fn card_of(headers: &mut Vec<CardList>, h: usize, place: usize) -> Option<Card>
     card_in(&mut headers[h - 1], place)
 }
 
-// The card at a place of a header, if there is one.
+/// The card at a place of a header, if there is one.
 #[tactic(auto, using(crate::proofs::ProblemCardLemmas::place_steps))]
-fn card_in(cards: &mut CardList, place: usize) -> Option<Card>
+pub(crate) fn card_in(cards: &mut CardList, place: usize) -> Option<Card>
     ensures value { result ≡ card_in place cards.old.header.cards }
     ensures same { cards.new.header ≡ cards.old.header }
 {

@@ -1,9 +1,11 @@
 //! Adding texts and numbers to a line.
 ghost use Rattle.std.specs.Prelude.{◌≡◌, ◌++◌, OnOk};
 ghost use Rattle.std.specs.Fmt.{decimal, signed_decimal};
+ghost use Rattle.fits_value.specs.Spelling.{doubled};
 ghost use Rattle.fits_tell.specs.Listing.{offsets_text};
 
 use fits_passing::HduOffsets;
+use fits_script::split_far;
 use itoa::Buffer;
 use std::alloc::AllocError;
 
@@ -38,4 +40,21 @@ pub fn push_offsets(text: &mut Vec<u8>, at: HduOffsets) -> Result<(), AllocError
     push_number(text, b"", at.header_start)?;
     push_number(text, b" ", at.data_start)?;
     push_number(text, b" ", at.hdu_end)
+}
+
+/// Adds characters, with each quote doubled.
+#[tactic(auto, using(crate::proofs::DoubledLemmas::doubled_steps))]
+pub fn push_doubled(line: &mut Vec<u8>, text: &[u8]) -> Result<(), AllocError>
+    ensures { OnOk result (line.new.items ≡ line.old.items ++ doubled text.now) }
+{
+    let mut rest = text;
+    'quotes: while let Some((front, more)) = split_far(rest, b'\'') {
+        push_both(line, front, b"''")?;
+        rest = more;
+        'row: while let [b'\'', after @ ..] = rest {
+            line.extend_from_slice(b"''")?;
+            rest = after;
+        }
+    }
+    line.extend_from_slice(rest)
 }

@@ -6,12 +6,13 @@ use crate::end::End;
 use crate::fault::Fault;
 use crate::level::Level;
 use crate::listing::list;
+use crate::long_listing::long_list;
 use crate::printing::flush;
 use crate::stating::statistics;
+use crate::summary::summarize;
 use crate::summing::{sum, wrong_sums};
 use crate::untouched::untouched_sums;
 use crate::verifying::verify;
-use crate::verifying_tables::verify_tables;
 use fits_stream::{Sink, Source};
 use std::alloc::Global;
 
@@ -20,6 +21,8 @@ use std::alloc::Global;
 pub enum Telling {
     /// A line for each HDU.
     List,
+    /// The same, with what it is called.
+    LongList,
     /// The sums of each HDU, and the verdicts on them.
     Sums,
     /// The same of HDUs of which a sum is wrong. The status is 1 where there is one.
@@ -35,12 +38,14 @@ pub enum Telling {
         strict: bool,
         /// Whether each line has the card of its problem.
         cards: bool,
+        /// Whether what is wrong with tables is told, too.
+        tables: bool,
     },
-    /// The same with what is wrong with tables.
-    TableReport {
+    /// How many problems that has of each code. The status is the same.
+    Summary {
         level: Level,
         strict: bool,
-        cards: bool,
+        tables: bool,
     },
 }
 
@@ -94,6 +99,7 @@ fn print_text<F: Source, O: Sink>(
 {
     match telling {
         Telling::List => list(alloc, file, out),
+        Telling::LongList => long_list(alloc, file, out),
         Telling::Sums => sum(alloc, file, out),
         Telling::WrongSums => wrong_sums(alloc, file, out),
         Telling::Untouched => untouched_sums(alloc, file, out),
@@ -102,11 +108,12 @@ fn print_text<F: Source, O: Sink>(
             level,
             strict,
             cards,
-        } => verify(alloc, level, strict, cards, file, out),
-        Telling::TableReport {
+            tables,
+        } => verify(alloc, level, strict, cards, tables, file, out),
+        Telling::Summary {
             level,
             strict,
-            cards,
-        } => verify_tables(alloc, level, strict, cards, file, out),
+            tables,
+        } => summarize(alloc, level, strict, tables, file, out),
     }
 }

@@ -1,15 +1,17 @@
 //! The words that the command line takes, as clap reads them.
 use crate::form::Form;
 use crate::help::{
-    ABOUT, ASK, CARDS, EDIT, EDIT_USAGE, FOUND, KEYED, KEYS, LINES, LIST, LISTED, SHOWN, STAT,
-    STATED, STATUSES, SUM, SUMMED, VERIFY, VERSION, WHY_FILES, WHY_LINES,
+    ABOUT, ASK, CARDS, COMPARED, DIFF, EDIT, EDIT_USAGE, FOUND, KEYED, KEYS, LINES, LIST, LISTED,
+    SHOWN, STAT, STATED, STATUSES, SUM, SUMMED, VERIFY, VERSION, WHY_FILES, WHY_LINES,
 };
 use crate::word::Word;
 use clap::Command;
 use std::alloc::{AllocError, Global};
 
 // The commands, as the help lists them.
-const FORMS: &[Form] = &[EDITS, ASKS, SHOWS, TABLES, LISTS, SUMS, STATES, VERIFIES];
+const FORMS: &[Form] = &[
+    EDITS, ASKS, SHOWS, TABLES, COMPARES, LISTS, SUMS, STATES, VERIFIES,
+];
 
 const EDITS: Form = Form {
     name: "edit",
@@ -19,6 +21,7 @@ const EDITS: Form = Form {
     words: &[
         Word::Line,
         Word::File,
+        Word::Extended,
         Word::Verbose(WHY_LINES),
         Word::Named,
         Word::RecursiveInPlace,
@@ -38,6 +41,11 @@ const EDITS: Form = Form {
             "sums",
             's',
             "Keep sums right that are right, and leave wrong ones as they are",
+        ),
+        Word::Flag(
+            "tables",
+            't',
+            "Refuse what would leave a table other columns, and count its errors with -c",
         ),
         Word::Done,
         Word::NoClobber,
@@ -61,11 +69,17 @@ const ASKS: Form = Form {
     words: &[
         Word::Line,
         Word::File,
+        Word::Extended,
         Word::Verbose(WHY_LINES),
         Word::Named,
         Word::Recursive,
         Word::NamesFrom,
         Word::Files,
+        Word::Flag(
+            "tables",
+            't',
+            "Refuse what would leave a table other columns",
+        ),
     ],
 };
 
@@ -102,6 +116,23 @@ const TABLES: Form = Form {
     ],
 };
 
+const COMPARES: Form = Form {
+    name: "diff",
+    about: DIFF,
+    help: COMPARED,
+    usage: None,
+    words: &[
+        Word::Verbose(WHY_FILES),
+        Word::Flag(
+            "script",
+            's',
+            "Print the script that makes the headers of A those of B",
+        ),
+        Word::First,
+        Word::Second,
+    ],
+};
+
 const LISTS: Form = Form {
     name: "list",
     about: LIST,
@@ -113,6 +144,11 @@ const LISTS: Form = Form {
         Word::Recursive,
         Word::NamesFrom,
         Word::Files,
+        Word::Flag(
+            "long",
+            'l',
+            "Say in each line what its HDU is called, too: type, name and version",
+        ),
     ],
 };
 
@@ -171,6 +207,11 @@ const VERIFIES: Form = Form {
             "tables",
             't',
             "Judge what headers of tables say of columns, too",
+        ),
+        Word::Flag(
+            "summary",
+            's',
+            "Print how many problems there are of each code, in place of a line for each",
         ),
         Word::Flag("warnings", 'w', "Warnings count for the status too"),
         Word::Flag(

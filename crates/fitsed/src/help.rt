@@ -31,6 +31,8 @@ pub(crate) const CARDS: &str = "Prints the cards of headers";
 
 pub(crate) const KEYS: &str = "Prints the values of keywords, a line for each file";
 
+pub(crate) const DIFF: &str = "Prints what differs in two files";
+
 pub(crate) const STATUSES: &str = "Exit status:
   0  done
   1  a line of the script was refused or bad; verify found an error, or edit -c more than there
@@ -43,13 +45,16 @@ Examples:
   fitsed cards -k DATE-OBS *.fits
   fitsed ask -e 'get 1 EXPTIME' *.fits
   fitsed verify -l *.fits
+  fitsed diff a.fits b.fits
   fitsed edit -e \"set 1 OBSERVER 'N. Night'\" -e 'stamp 1' in.fits out.fits
 
 fitsed(1) has the lines of a script and the codes of a report.";
 
 pub(crate) const LISTED: &str = "Each line: hdu N CLASS bitpix B axes A cards C at HEADER DATA END
   N counts from 1; CLASS is PRIMARY, GROUPS, IMAGE, TABLE or OTHER; the last three are the
-  bytes, from 0, at which its header begins, its data begin, and it ends.
+  bytes, from 0, at which its header begins, its data begin, and it ends. With -l there stands
+  before at what an extension is called, as far as it says: type 'XTENSION' name 'EXTNAME' ver
+  EXTVER; of the primary HDU the name alone.
 
 Exit status:
   0  done
@@ -68,7 +73,8 @@ Exit status:
 
 pub(crate) const FOUND: &str = "Each line: CODE HDU PLACE TEXT, and at the end the counts
   An E is an error, a W a warning; place 0 is the HDU as a whole. With -p the lines are
-  CODE HDU PLACE TEXT: CARD, as cards prints it; place 0 has none.
+  CODE HDU PLACE TEXT: CARD, as cards prints it; place 0 has none. With -s they are CODE COUNT TEXT,
+  one for each code that was found, by its number; -p does nothing then.
 
 Exit status:
   0  no error, perhaps warnings; with -w none either
@@ -110,6 +116,19 @@ Exit status:
   2  a wrong command line, or a file that doesn't open
   3  the file can't be read, the lines can't be written, or memory ran out";
 
+pub(crate) const COMPARED: &str =
+    "Each line: - HDU PLACE CARD of A, or + HDU PLACE CARD of B; or how HDUs differ otherwise
+  Cards are matched in their order: those that both headers have in the same order have no line.
+  Bytes of data count from 0, and the fill counts as data.
+  With -s each line is ins H P CARD, put H P CARD or del H P: run over A, in this order, by
+  fitsed edit -a, they make the cards of its headers those of B. Data aren't compared then.
+
+Exit status:
+  0  the files are the same, byte for byte; with -s: no line is wanted
+  1  they aren't, or lines are
+  2  a wrong command line, or a file that doesn't open; with -s: there is no such script
+  3  a file can't be read, the lines can't be written, or memory ran out";
+
 pub(crate) const LINES: &str = "Lines of the script, words separated by one space:
   ins H P CARD         insert a card at place P of HDU H
   put H P CARD         put a card instead of the one at place P
@@ -135,6 +154,17 @@ pub(crate) const LINES: &str = "Lines of the script, words separated by one spac
   off                  print where each HDU begins, its data begin, and it ends
   rep                  print what is wrong, and count it
   # text               nothing; so does an empty line
+With -x extended lines too, each for some of these, by the file as it is then:
+  val H NAME FIELD     give a keyword a value: its comment stays, and none is added
+  note H NAME COMMENT  give a keyword a comment: its value stays
+  ren H NAME NEW       give a keyword another name: all else of it stays
+  add H CARD           insert a card after the last that isn't blank
+  hist H TEXT          insert as many HISTORY cards as the text needs
+  want H NAME FIELD    nothing, where the keyword has this value; else it is refused
+  want H NAME          nothing, where there is such a card; else it is refused
+  lack H NAME          nothing, where there is none; else it is refused
+  and for the number H @NAME or @NAME,VER: the first extension of that EXTNAME and EXTVER
+  and with -a in edits *: each HDU, in order; nothing is saved if one refuses
 Values of pixels are the stored numbers, with the offset of unsigned integers and signed bytes;
 other BSCALE and BZERO aren't applied.
 

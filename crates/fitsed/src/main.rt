@@ -2,7 +2,9 @@
 #![tactic(auto)]
 
 mod arguments;
+mod comparing;
 mod detail;
+mod drawing;
 mod editing;
 mod explaining;
 mod files;
@@ -26,7 +28,9 @@ mod wrong_sums;
 use arguments::command;
 use clap::error::ErrorKind;
 use clap::{ArgMatches, Error};
+use comparing::compare;
 use detail::Detail;
+use drawing::draw;
 use editing::{edit, edit_in_place};
 use fits_cli::Fault;
 use reading::{Job, Sought, ask, each, name};
@@ -113,9 +117,19 @@ fn status_of<R: Files<File = File> + Input + Print + Eprint + AllocGlobal + Clon
             };
             edit_in_place(rt, &script, files, done, terms, detail)
         }
-        Task::Ask { script, files } => ask(rt, &script, files, detail),
+        Task::Ask {
+            script,
+            manner,
+            files,
+        } => ask(rt, &script, manner, files, detail),
         Task::Show { choice, files } => each(rt, Job::Show(&choice), files, detail),
         Task::Table { choice, files } => each(rt, Job::Table(&choice), files, detail),
+        Task::Compare {
+            first,
+            second,
+            script: false,
+        } => compare(rt, first, second, detail),
+        Task::Compare { first, second, .. } => draw(rt, first, second, detail),
         Task::Tell { telling, files } => each(rt, Job::Tell(telling), files, detail),
         Task::Name {
             telling,

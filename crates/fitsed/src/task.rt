@@ -3,7 +3,7 @@ use crate::piece::{Piece, pieces_of};
 use crate::words::oddity_of;
 use clap::ArgMatches;
 use fits_card::Name;
-use fits_cli::{CardChoice, Level, NamePattern, Telling};
+use fits_cli::{CardChoice, Level, Manner, NamePattern, Telling};
 use fits_keys::KeyChoice;
 use fits_save::Saving;
 use std::alloc::{AllocError, Global};
@@ -35,6 +35,7 @@ pub enum Task<'m, 'a> {
     /// A script is done on each file, and nothing is saved.
     Ask {
         script: Vec<Piece<'a>>,
+        manner: Manner,
         files: Inputs<'m, 'a>,
     },
     /// Cards of each file are printed.
@@ -46,6 +47,13 @@ pub enum Task<'m, 'a> {
     Table {
         choice: KeyChoice,
         files: Inputs<'m, 'a>,
+    },
+    /// What differs in two files is printed.
+    Compare {
+        first: &'a str,
+        second: &'a str,
+        /// Whether it is the script that makes the headers of the first those of the second.
+        script: bool,
     },
     /// A text of each file is printed.
     Tell {
@@ -77,6 +85,10 @@ pub struct SavingTerms<'a> {
     pub strict: bool,
     /// So that sums that were right are right.
     pub sums: bool,
+    /// With extended lines.
+    pub extended: bool,
+    /// So that the columns of tables stay.
+    pub tables: bool,
     /// Only where nothing stands.
     pub fresh: bool,
     /// Only where the file that stands there stays whole, or is kept.
@@ -140,10 +152,17 @@ pub fn task_of<'m, 'a>(
     if name == "edit" {
         return edit_of(alloc, words);
     }
+    if name == "diff" {
+        return compared_of(words);
+    }
     let files = files_of(words)?;
     Ok(match name {
         "ask" => Task::Ask {
             script: pieces_of(alloc, words)?,
+            manner: Manner {
+                extended: words.get_flag("extended"),
+                tables: words.get_flag("tables"),
+            },
             files,
         },
         "cards" if words.get_flag("files-without") => Task::Lack {
@@ -220,6 +239,21 @@ fn edit_of<'m, 'a>(
     })
 }
 
+// The words of `diff`: two files.
+fn compared_of<'m, 'a>(words: &'m ArgMatches<'a>) -> Result<Task<'m, 'a>, TaskFault<'a>> {
+    let (Some(first), Some(second)) = (words.get_str("A"), words.get_str("B")) else {
+        return Err(TaskFault::Missing);
+    };
+    if oddity_of(first).is_some() || oddity_of(second).is_some() {
+        return Err(TaskFault::NotText);
+    }
+    Ok(Task::Compare {
+        first,
+        second,
+        script: words.get_flag("script"),
+    })
+}
+
 // When the words of `edit` want the result saved.
 fn terms_of<'a>(words: &ArgMatches<'a>) -> SavingTerms<'a> {
     SavingTerms {
@@ -227,6 +261,8 @@ fn terms_of<'a>(words: &ArgMatches<'a>) -> SavingTerms<'a> {
         checked: words.get_flag("check"),
         strict: words.get_flag("warnings"),
         sums: words.get_flag("sums"),
+        extended: words.get_flag("extended"),
+        tables: words.get_flag("tables"),
         fresh: words.get_flag("no-clobber"),
         saving: Saving {
             safe: words.get_flag("safe"),
@@ -278,10 +314,16 @@ fn are_named<'a>(paths: &[&str], asked: bool) -> Result<bool, TaskFault<'a>> {
 // Which text of a file a command prints.
 fn telling_of<'a>(name: &str, words: &ArgMatches<'a>) -> Result<Telling, TaskFault<'a>> {
     match name {
+        "list" if words.get_flag("long") => Ok(Telling::LongList),
         "list" => Ok(Telling::List),
         "sum" if words.get_flag("check") => Ok(Telling::WrongSums),
         "sum" => Ok(Telling::Sums),
         "stat" => Ok(Telling::Statistics),
+        "verify" if words.get_flag("summary") => Ok(Telling::Summary {
+            level: level_of(words),
+            strict: words.get_flag("warnings"),
+            tables: words.get_flag("tables"),
+        }),
         "verify" => {
             let cards = words.get_flag("print-cards");
             Ok(report_of(words, level_of(words), cards))
@@ -292,19 +334,11 @@ fn telling_of<'a>(name: &str, words: &ArgMatches<'a>) -> Result<Telling, TaskFau
 
 // The report of `verify`, as a level has it.
 fn report_of(words: &ArgMatches<'_>, level: Level, cards: bool) -> Telling {
-    let strict = words.get_flag("warnings");
-    if words.get_flag("tables") {
-        Telling::TableReport {
-            level,
-            strict,
-            cards,
-        }
-    } else {
-        Telling::Report {
-            level,
-            strict,
-            cards,
-        }
+    Telling::Report {
+        level,
+        strict: words.get_flag("warnings"),
+        cards,
+        tables: words.get_flag("tables"),
     }
 }
 

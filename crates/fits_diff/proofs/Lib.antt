@@ -1,0 +1,9 @@
+pub mod AloneLemmas
+pub mod FileLemmas
+pub mod HduLemmas
+pub mod LawLemmas
+pub mod LineLemmas
+pub mod MatchLemmas
+pub mod PairLemmas
+pub mod PassingLemmas
+pub mod TailLemmas

@@ -1,0 +1,5 @@
+pub mod Diff
+pub mod DiffSteps
+pub mod Differences
+pub mod Laws
+pub mod Matching

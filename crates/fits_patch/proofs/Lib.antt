@@ -1,0 +1,3 @@
+pub mod GapLemmas
+pub mod HeaderLemmas
+pub mod MakingLemmas

@@ -1,0 +1,13 @@
+use Rattle.std.proofs.Common.{arith}
+use Rattle.fits_patch.specs.Patch.{card_line}
+use Rattle.fits_diff.proofs.LineLemmas.{between-push}
+use Rattle.fits_patch.proofs.gaps.push_cards.Goals as goal
+
+pub loop-index-preserved : goal.loop-index-preserved
+loop-index-preserved c =
+    let it = c.loop-index.invariant in
+    record {
+      told = between-push (card_line c.args.verb.now c.args.h) c.args.cards.now.header.cards c.args.from c.loop-index.index c.card-card.result c.args.text.now.items c.loop-index.text.items _ it.ordered (omega (arith, c.loop-index-test.true, c.requires.within)) (rw it.same at c.card-card.ensures.value) it.told c.in_ok-push_card_line.ensures;
+      ordered = omega (arith, it.ordered);
+      same = rw c.card-card.ensures.work it.same;
+    }

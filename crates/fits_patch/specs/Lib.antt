@@ -1,0 +1,4 @@
+pub mod Ends
+pub mod Making
+pub mod Patch
+pub mod Steps
