@@ -36,7 +36,7 @@ def crates():
         if line.startswith("# "):
             comment = line[2:]
         else:
-            yield line.partition(":")[0], comment
+            yield line.partition(":")[0].split()[0], comment
 
 
 def definitions(crate):

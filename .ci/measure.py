@@ -66,7 +66,7 @@ def main():
     print("| crate | code | specs | proofs | edits | proof | tests | trying edits |")
     print("|---|---|---|---|---|---|---|---|")
     rows = []
-    for crate in [it.partition(":")[0] for it in open(f"{TOP}/crates.txt") if it[0] not in "#\n"]:
+    for crate in [it.partition(":")[0].split()[0] for it in open(f"{TOP}/crates.txt") if it[0] not in "#\n"]:
         edits = len(glob.glob(f"{TOP}/crates/{crate}/refused/*.edit"))
         sizes = [lines(crate, "src", "rt"), lines(crate, "specs", "antt"), lines(crate, "proofs", "antt"), edits]
         rows.append([*sizes, *(minutes[crate, kind] for kind in KINDS)])

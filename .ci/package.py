@@ -1,6 +1,7 @@
 #!/usr/bin/env python3
 """What is given away: the Debian package unpacked and run, the archive of a release, completions, and one version everywhere."""
 import hashlib
+import os
 import pathlib
 import re
 import shutil
@@ -10,6 +11,7 @@ import tempfile
 
 TOP = pathlib.Path(__file__).resolve().parent.parent
 PROGRAM = TOP / "crates/fitsed/out/fitsed"
+LIBRARY = [TOP / f"crates/fits_c/out/{name}" for name in ("libfitsed.a", "libfitsed.so.0")]
 EXAMPLE = "examples/a_keyword_in_an_extension/in.fits"
 
 
@@ -23,6 +25,8 @@ def versions():
     yield "the help", said("sh", "packaging/version.sh").strip()
     yield "the program", said(PROGRAM, "--version").split()[-1]
     yield "the manual", re.search(r'^\.TH FITSED 1 \S+ "fitsed (\S+)"', (TOP / "man/fitsed.1").read_text())[1]
+    yield "the header", re.search(r'FITSED_VERSION "(.*)"', (TOP / "binding/fitsed.h").read_text())[1]
+    yield "the Python package", re.search(r'^__version__ = "(.*)"', (TOP / "binding/python/fitsed/__init__.py").read_text(), re.M)[1]
     yield "the changelog", re.search(r"^## (\d\S*?),? ", (TOP / "CHANGELOG.md").read_text(), re.M)[1]
 
 
@@ -60,16 +64,43 @@ def package(room):
         yield "lintian finds no error", "", "".join(it for it in said("lintian", made[0]).splitlines(True) if it.startswith("E:"))
 
 
+def library_packages(room):
+    """Those of the library, unpacked into one folder, and used from there."""
+    said("sh", "packaging/library_debs.sh", room / "debs")
+    made = sorted((room / "debs").glob("*.deb"))
+    yield "the packages of the library", ["libfitsed-dev", "libfitsed0", "python3-fitsed"], [it.name.partition("_")[0] for it in made]
+    said("sh", "packaging/library_debs.sh", room / "again")
+    yield "they are the same to the byte", [it.read_bytes() for it in made], [it.read_bytes() for it in sorted((room / "again").glob("*.deb"))]
+    for file in made:
+        said("dpkg-deb", "-x", file, room / "library")
+    usr = room / "library/usr"
+    here = usr / "lib/x86_64-linux-gnu"
+    words = {**os.environ, "LD_LIBRARY_PATH": str(here), "PYTHONPATH": str(usr / "lib/python3/dist-packages")}
+    hdus = len(said(PROGRAM, "list", EXAMPLE).splitlines())
+    script = f"import fitsed; print(len(fitsed.hdus('{EXAMPLE}')))"
+    yield "the Python package runs", f"{hdus}\n", said(sys.executable, "-B", "-c", script, env=words)
+    if shutil.which("cc"):
+        said("cc", f"-I{usr}/include", f"-L{here}", "-o", room / "pipeline", "examples/pipeline/pipeline.c", "-lfitsed")
+        yield "a program in C runs", "10 of 10\n", said(room / "pipeline", EXAMPLE, "10", env=words)
+    if shutil.which("pkg-config"):
+        yield "pkg-config has it", "-lfitsed", said("pkg-config", "--libs-only-l", "fitsed", env={**os.environ, "PKG_CONFIG_PATH": str(here / "pkgconfig")}).strip()
+    if shutil.which("lintian"):
+        yield "lintian finds no error in them", "", "".join(it for it in said("lintian", *made).splitlines(True) if it.startswith("E:"))
+
+
 def release(room):
     """What is given away, made in a clone."""
     clone = room / "clone"
     said("git", "clone", "-q", TOP, clone)
-    (clone / "crates/fitsed/out").mkdir()
-    shutil.copy(PROGRAM, clone / "crates/fitsed/out/fitsed")
+    for built in (PROGRAM, *LIBRARY):
+        (clone / built.relative_to(TOP)).parent.mkdir(exist_ok=True)
+        shutil.copy(built, clone / built.relative_to(TOP))
     subprocess.run(["sh", "packaging/dist.sh"], cwd=clone, capture_output=True, check=False)
     files = sorted(it.name for it in (clone / "dist").glob("*"))
     version = said("sh", "packaging/version.sh").strip()
-    yield "the files of a release", ["SHA256SUMS", f"fitsed-{version}.proof", f"fitsed-{version}.tar.gz", f"fitsed_{version}_amd64.deb"], files
+    archives = [f"fitsed-{version}-py3-none-manylinux_2_17_x86_64.whl", f"fitsed-{version}.proof", f"fitsed-{version}.tar.gz"]
+    debs = [f"fitsed_{version}_amd64.deb", f"libfitsed-dev_{version}_amd64.deb", f"libfitsed0_{version}_amd64.deb", f"python3-fitsed_{version}_all.deb"]
+    yield "the files of a release", ["SHA256SUMS", *archives, *debs], files
     for line in (clone / "dist/SHA256SUMS").read_text().splitlines():
         total, name = line.split()
         yield f"the sum of {name}", total, hashlib.sha256((clone / "dist" / name).read_bytes()).hexdigest()
@@ -102,6 +133,10 @@ def rows():
             print(f"no package is made: {', '.join(lacks)} not installed", file=sys.stderr)
             return
         yield from package(pathlib.Path(room))
+        if not all(it.exists() for it in LIBRARY):
+            yield "the library is built", True, False
+            return
+        yield from library_packages(pathlib.Path(room))
         if not said("git", "rev-parse", "HEAD"):
             print("no release is made: these sources are no repository", file=sys.stderr)
             return

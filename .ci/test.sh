@@ -1,7 +1,7 @@
 #!/bin/sh
-# All that has to hold, in eleven parts: each lemma is used and each refused body well made, each refusal of memory is passed on, the documents name what is
-# there, the tool that tries refused bodies does what it says, the proofs and tests of all crates, the refused bodies, refused memory, the program over real
-# files and over the tables of cases/, the package, the instructions of the jobs of bench/. What failed is said once more at the end, with the clock of each part; the last line sums their counts.
+# All that has to hold, in twelve parts: each lemma is used and each refused body well made, each refusal of memory is passed on, the documents name what is
+# there, the tool that tries refused bodies does what it says, the proofs and tests of all crates, the refused bodies, refused memory, the library from C and Python, the
+# program over real files and over the tables of cases/, the package, the instructions of the jobs of bench/. What failed is said once more at the end, with the clock of each part; the last line sums their counts.
 # With ANEW all is proved and tried again, whatever an earlier run on this machine kept.
 set -u
 cd "$(dirname "$0")/.."
@@ -41,13 +41,17 @@ part refused sh .ci/refuse.sh &
 refused=$!
 part stored sh .ci/stored.sh &
 stored=$!
-part cases python3 -B cases/run.py &
+# The rows of cases/ are run by the library too, and it has packages.
+{
+    part library python3 -B .ci/library.py ${ANEW:+--anew}
+    part package python3 -B .ci/package.py &
+    part cases python3 -B cases/run.py
+    wait
+} &
 cases=$!
-part package python3 -B .ci/package.py &
-package=$!
 part bench python3 -B bench/count &
-wait $! $refused $stored $cases $package $edits
+wait $! $refused $stored $cases $edits
 wait
 cat "$room/faults" "$room/clocks"
 awk '/^[0-9]+ passed, [0-9]+ failed/ { passed += $1; failed += $3; counted += 1 }
-     END { if (counted < 11) failed += 1; printf "%d passed, %d failed\n", passed, failed; exit failed > 0 }' "$room/counts" && [ ! -e "$room/failed" ]
+     END { if (counted < 12) failed += 1; printf "%d passed, %d failed\n", passed, failed; exit failed > 0 }' "$room/counts" && [ ! -e "$room/failed" ]

@@ -393,6 +393,9 @@ ROWS += [
     (["edit", "-v", "-e", "stat 1", "a.fits", "/dev/null"], {"a.fits": EMPTY}, "", 1, "line 1: refused 9 NotImage\n", "fitsed: line 1: refused 9 NotImage: the HDU is no image of integers\n"),
     (["edit", "--verbose", "a.fits", "/dev/null"], {"a.fits": EMPTY}, "off 1", 1, "line 1: not a command\n", "fitsed: line 1: a word too many: 1\n"),
     # of several files each is named, and what isn't saved is said last
+    # --done names each file that is saved, and no other
+    (["edit", "-i", "--done", "-e", "off", "a.fits", "b.fits"], {"a.fits": EMPTY, "b.fits": EMPTY}, "", 0, "a.fits:1 0 2880 2880\nb.fits:1 0 2880 2880\n", "a.fits\nb.fits\n"),
+    (["edit", "-i", "-a", "--done", "-e", "frob", "a.fits"], {"a.fits": EMPTY}, "", 1, "line 1: not a command\n", "fitsed: a.fits: not saved: 1 line was not done\n"),
     (["edit", "-i", "-v", "-a", "-e", "off 1", "a.fits", "b.fits"], {"a.fits": EMPTY, "b.fits": EMPTY}, "", 1, "a.fits:line 1: not a command\nb.fits:line 1: not a command\n", "fitsed: a.fits: line 1: a word too many: 1\nfitsed: a.fits: not saved: 1 line was not done\nfitsed: b.fits: line 1: a word too many: 1\nfitsed: b.fits: not saved: 1 line was not done\n"),
     # --done names each file that is saved, and no other
     (["edit", "-i", "--done", "-e", "off", "a.fits", "b.fits"], {"a.fits": EMPTY, "b.fits": EMPTY}, "", 0, "a.fits:1 0 2880 2880\nb.fits:1 0 2880 2880\n", "a.fits\nb.fits\n"),
@@ -535,6 +538,9 @@ def beside_cfitsio(program, path):
         shown = "".join(byte if " " <= byte <= "~" else "?" for byte in card).rstrip(" ")
         if shown or int(place) < int(last.get(hdu, 0)):
             read[hdu, place] = shown
+    # CFITSIO stops at a table that it doesn't open
+    if {hdu for hdu, _ in read} < {hdu for hdu, _ in cards}:
+        return
     blank = {(words[0], words[1]): "" for words in ours if len(words) == 2 and int(words[1]) < int(last.get(words[0], 0))}
     if cards | blank != read:
         yield f"CFITSIO reads {sorted(read.items() ^ (cards | blank).items())!r:.300}"

@@ -6,11 +6,18 @@ import shutil
 import subprocess
 import tempfile
 
+import library
+
 TOP = pathlib.Path(__file__).resolve().parent.parent
 
 # Documents with blocks of sessions, which go on from block to block.
 DOCUMENTS = ["README.md", "docs/GUIDE.md"]
+if library.fitsed:
+    DOCUMENTS.append("docs/LIBRARY.md")
 MANUAL = "man/fitsed.1"
+
+# What goes on without it, where it isn't built.
+OF_LIBRARY = re.compile(r"^## Files in memory$.*?(?=^## )", re.S | re.M)
 
 # What stands for a character in a text of the manual page.
 ROFF = {r"\(aq": "'", r"\(dq": '"', r"\-": "-", r"\e": "\\", r"\&": ""}
@@ -19,6 +26,7 @@ ROFF = {r"\(aq": "'", r"\(dq": '"', r"\-": "-", r"\e": "\\", r"\&": ""}
 def cases():
     for name in DOCUMENTS:
         text = (TOP / name).read_text(encoding="utf-8")
+        text = text if library.fitsed else OF_LIBRARY.sub("", text)
         yield name, typed, "".join(re.findall(r"^```console\n(\$ .*?)^```$", text, re.S | re.M))
     yield MANUAL, typed, examples((TOP / MANUAL).read_text(encoding="utf-8"))
 
@@ -40,8 +48,10 @@ def typed(program, text):
         os.symlink(program.path, f"{room}/bin/fitsed")
         shutil.copytree(TOP / "examples", f"{room}/examples")
         script = "exec 2>&1\n" + "".join(f"{command}\nstatus=$?; echo '@{k}'; (exit $status)\n" for k, (command, _) in enumerate(steps))
-        path = f"{room}/bin:{os.environ['PATH']}"
-        ran = subprocess.run(["sh"], cwd=room, input=script, env={**os.environ, "PATH": path}, capture_output=True, text=True, timeout=60)
+        # the library as it stands where it is built
+        places = {"C_INCLUDE_PATH": f"{TOP}/binding", "LIBRARY_PATH": f"{TOP}/crates/fits_c/out", "PYTHONPATH": f"{TOP}/binding/python"}
+        words = {**os.environ, **places, "PYTHONDONTWRITEBYTECODE": "1", "PATH": f"{room}/bin:{os.environ['PATH']}"}
+        ran = subprocess.run(["sh"], cwd=room, input=script, env=words, capture_output=True, text=True, timeout=60)
     rest = ran.stdout
     for k, (command, wanted) in enumerate(steps):
         printed, mark, rest = rest.partition(f"@{k}\n")

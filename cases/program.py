@@ -8,6 +8,8 @@ import subprocess
 import tempfile
 import threading
 
+import library
+
 
 @dataclasses.dataclass(frozen=True)
 class Ran:
@@ -108,11 +110,12 @@ def fed(ran, pieces):
 
 class BothWays(Program):
     """A program that runs each script over the file, and again over a pipe that the file comes by. What it comes to is that of
-    the first run; `apart` has, for each script, where the second comes to something else."""
+    the first run; `apart` has, for each script, where the second comes to something else, and `by_library`, for each run that the
+    library has, where that does."""
 
     def __init__(self, path):
         super().__init__(path)
-        self.apart = []
+        self.apart, self.by_library = [], []
 
     def over(self, words, files, script):
         ran, after = super().over(words, files, script)
@@ -125,6 +128,8 @@ class BothWays(Program):
         ran = super()._run(words, files, pieces)
         if inputs(words, files):
             self.apart.append(list(differences(self.by_pipe()._run(words, files, pieces), **vars(ran))))
+        for name, came in library.runs(words, files, pieces):
+            self.by_library.append([f"{name}: {line}" for line in differences(ran, **came)])
         return ran
 
 

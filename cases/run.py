@@ -1,6 +1,6 @@
 #!/usr/bin/env python3
 """Runs a built `fitsed` over each row of the tables beside this file, and says where one comes to something else.
-Scripts over files are rows once more, by pipes.
+Scripts over files are rows once more, by pipes, and so is what the library has, by the Python package.
 
 `cases/run.py [PROGRAM]`; its last line is 'N passed, M failed'."""
 import concurrent.futures
@@ -17,6 +17,7 @@ import card_edits
 import codes
 import commands
 import documents
+import extended
 import faults
 import hdu_edits
 import keeping
@@ -58,6 +59,7 @@ TABLES = [
     codes,
     tables,
     mending,
+    extended,
     faults,
     one_file,
     again,
@@ -77,8 +79,8 @@ ROWS = []
 
 
 def checked(path, index):
-    """A row, and where it comes to something else; where it runs scripts over files, another: what they come to by pipes. A run
-    that hangs, or saves nothing to go on with, comes to something else too."""
+    """A row, and where it comes to something else; where it runs scripts over files, another: what they come to by pipes; and where
+    the library has its runs, one of these. A run that hangs, or saves nothing to go on with, comes to something else too."""
     table, name, check, *of_row = ROWS[index]
     fitsed, title = program.BothWays(path), f"{table}, {program.shown(name)}"
     try:
@@ -86,7 +88,8 @@ def checked(path, index):
     except (OSError, TypeError, ValueError, LookupError, AttributeError, subprocess.TimeoutExpired) as error:
         found = [repr(error)]
     by_pipe = [(f"{title}, by a pipe", sum(fitsed.apart, []))] if fitsed.apart else []
-    return [(title, found), *by_pipe]
+    by_library = [(f"{title}, by the library", sum(fitsed.by_library, []))] if fitsed.by_library else []
+    return [(title, found), *by_pipe, *by_library]
 
 
 def main(words):

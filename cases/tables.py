@@ -1,4 +1,4 @@
-"""Reports of tables, as `verify -t` has them."""
+"""Reports of tables, as `verify -t` has them, and edits that `edit -t` and `ask -t` refuse."""
 import math
 
 from fits import BLOCK_LEN, P0, header
@@ -126,6 +126,93 @@ VERIFIED = [
     ([f"{HEAP}|TFIELDS = 1|TFORM1  = '1PB(1)'|TTYPE1  = 'COMPRESSED_DATA'|ZIMAGE  = T|ZBITPIX = 8"], ["-t"], "errors 0 warnings 0\n", 0),
 ]
 
+# Two columns in rows of eight bytes, the same in rows of characters, a table whose TFIELDS, and one of whose forms, can't be read.
+TWO = f"{ROWS}|TFIELDS = 2|TFORM1  = '1J'|TFORM2  = '4A'|TTYPE1  = 'c1'|TTYPE2  = 'c2'"
+FIELDS = f"{TEXT}|TFIELDS = 2|TFORM1  = 'A4'|TBCOL1  = 1|TFORM2  = 'F4.2'|TBCOL2  = 5"
+UNCOUNTED = f"{ROWS}|COMMENT x|TFIELDS = 1|TFORM1  = '1D'"
+FORMLESS = f"{ROWS}|TFIELDS = 2|TFORM1  = '1J'|TFORM2  = 'x'"
+
+# A line over the second HDU of a file, and whether -t refuses it, which nothing else does.
+KEPT = [
+    # TFIELDS, in its place
+    (TWO, "set 2 TFIELDS 99", True),
+    (TWO, "set 2 TFIELDS 1", True),
+    (TWO, "set 2 TFIELDS 2 / columns", False),
+    (TWO, "set 2 TFIELDS '2'", True),
+    (TWO, "unset 2 TFIELDS", True),
+    (TWO, "ins 2 8 COMMENT x", True),
+    (TWO, "ins 2 9 COMMENT x", False),
+    (TWO, "mov 2 9 8", True),
+    (TWO, "mov 2 9 10", False),
+    (TWO, "put 2 8 TFIELDS = 2", False),
+    (TWO, "put 2 8 TFIELDS = 3", True),
+    (TWO, "del 2 8", True),
+    # forms: as wide, and of the same type
+    (TWO, "set 2 TFORM1 '500J'", True),
+    (TWO, "set 2 TFORM1 'rubbish'", True),
+    (TWO, "set 2 TFORM1 'J'", False),
+    (TWO, "set 2 TFORM1 '1E'", True),
+    (TWO, "set 2 TFORM1 '4A'", True),
+    (TWO, "set 2 TFORM2 '4A2'", False),
+    (TWO, "set 2 TFORM2 '5A'", True),
+    (TWO, "unset 2 TFORM1", True),
+    (TWO, "del 2 9", True),
+    (TWO, "ins 2 9 TFORM1  = '1J'", False),
+    (TWO, "ins 2 9 TFORM1  = '1I'", True),
+    (TWO, "ins 2 9 TFORM1", False),
+    (TWO, "set 2 TFORM3 '9D'", False),
+    (TWO, "set 2 TFORM01 '9D'", False),
+    # fields of characters: their places and decimals too
+    (FIELDS, "set 2 TBCOL2 4", True),
+    (FIELDS, "set 2 TBCOL2 5 / a place", False),
+    (FIELDS, "unset 2 TBCOL2", True),
+    (FIELDS, "set 2 TFORM2 'F4.1'", True),
+    (FIELDS, "set 2 TFORM2 'E4.2'", True),
+    (FIELDS, "set 2 TFORM2 'F4.2'", False),
+    (TWO, "set 2 TBCOL1 3", False),
+    # its kind
+    (TWO, "set 2 XTENSION 'FOO'", True),
+    (TWO, "set 2 XTENSION 'TABLE'", True),
+    (TWO, "set 2 XTENSION 'BINTABLE' / a table", False),
+    # what can't be read may become anything
+    (UNCOUNTED, "mov 2 9 8", False),
+    (UNCOUNTED, "set 2 TFIELDS 7", False),
+    (UNCOUNTED, "unset 2 TFORM1", False),
+    (FORMLESS, "set 2 TFORM2 '4A'", False),
+    (FORMLESS, "unset 2 TFORM2", False),
+    (FORMLESS, "set 2 TFORM1 '2J'", True),
+    # all else is as it was
+    (TWO, "set 2 TTYPE2 'c1'", False),
+    (TWO, "set 2 TNULL1 5", False),
+    (TWO, "unset 2 TTYPE1", False),
+    (TWO, "set 1 TFIELDS 3", False),
+    (TWO, "rm 2", False),
+]
+
+# Lines that are refused for what stands first, with -t too: no such card, no text, another shape, and a limit last.
+FIRST = [
+    ("del 2 99", "2 NoCard"),
+    ("ins 2 8 \x7f", "4 BadText"),
+    ("ins 2 8 END", "5 EndCard"),
+    ("set 2 NAXIS1 9", "6 Shape"),
+    ("unset 2 TFORM9", "3 NoKey"),
+    ("set 2 tform1 '2J'", "7 BadName"),
+    ("set 3 TFORM1 '2J'", "1 NoHdu"),
+]
+
+# Lines over a table that keep its columns; what `edit -c -t` prints, and what with -w too: nothing where the result is saved.
+CHECKED = [
+    (TWO, "set 2 TNULL2 5", "+E31 2 0 keyword that its column can't have\n", "+E31 2 0 keyword that its column can't have\n"),
+    (TWO, "set 2 TTYPE2 'C1'", "", "+W32 2 0 two columns of one name\n"),
+    (TWO, "set 2 TTYPE2 'c_2'", "", ""),
+    (TWO, "set 2 TFORM3 '1J'", "", "+W33 2 0 column keyword past TFIELDS\n"),
+    (f"{TWO}|TNULL2  = 5", "set 2 TSCAL2 2.0", "", ""),
+    (f"{TWO}|TNULL2  = 5", "unset 2 TNULL2", "", ""),
+    (TWO, "set 2 DATE '2024-02-30'\nset 2 TNULL2 5", "+E12 2 13 bad date\n+E31 2 0 keyword that its column can't have\n", "+E12 2 13 bad date\n+E31 2 0 keyword that its column can't have\n"),
+    (HEAP + "|TFIELDS = 1|TFORM1  = '1PB(1)'", "set 2 THEAP 1", "+E30 2 0 heap not within the data\n", "+E30 2 0 heap not within the data\n"),
+    (FORMLESS, "set 2 TFORM2 '5A'", "+E29 2 0 columns don't make up the row\n", "+E29 2 0 columns don't make up the row\n"),
+]
+
 
 def unit(text):
     """As many bytes as these cards say, and the fill."""
@@ -149,6 +236,14 @@ def cases():
         yield others, coded, f"{start}|{others}", codes
     for tables, words, printed, status in VERIFIED:
         yield " ".join(words), told, tables, words, printed, status
+    for table, line, refused in KEPT:
+        yield line, kept, table, line, refused
+    for line, why in FIRST:
+        yield line, first, line, why
+    for table, script, errors, all_of_them in CHECKED:
+        yield f"-c -t: {script}", checked, table, script, ["-c", "-t"], errors
+        yield f"-c -t -w: {script}", checked, table, script, ["-c", "-t", "-w"], all_of_them
+        yield f"-c: {script}", checked, table, script, ["-c", "-w"], "".join(it for it in all_of_them.splitlines(True) if int(it[2:4]) < 27)
 
 
 def coded(program, text, codes):
@@ -166,3 +261,38 @@ def told(program, tables, words, printed, status):
     """Where a report of these tables isn't this, or the run ends otherwise."""
     ran = program.tell(["verify", *words], file_of(tables))
     yield from differences(ran, status=status, printed=printed.encode("latin-1"), reported=b"")
+
+
+def kept(program, table, line, refused):
+    """Where -t refuses a line, or doesn't, against this; or it is refused without it; or a refused one leaves another file."""
+    file = file_of([table])
+    without = program.edit(file, line.encode())
+    yield from differences(without, status=0, printed=b"", reported=b"")
+    wanted = b"line 1: refused 6 Shape\n" if refused else b""
+    for words in (["edit", "-t"], ["edit", "--tables", "-a"]):
+        ran = program.edit(file, line.encode(), words)
+        saved = None if refused and "-a" in words else file if refused else without.saved
+        reported = b"fitsed: in.fits: not saved: 1 line was not done\n" if saved is None else b""
+        yield from differences(ran, status=int(refused), printed=wanted, reported=reported, saved=saved)
+    asked = program.tell(["ask", "-t", "-e", line], file)
+    yield from differences(asked, status=int(refused), printed=wanted, reported=b"")
+
+
+def first(program, line, why):
+    """Where a line isn't refused for this, with -t and without."""
+    file = file_of([TWO])
+    for words in (["edit"], ["edit", "-t"]):
+        ran = program.edit(file, line.encode("latin-1"), words)
+        yield from differences(ran, status=1, printed=f"line 1: refused {why}\n".encode(), reported=b"", saved=file)
+
+
+def checked(program, table, script, words, printed):
+    """Where these lines don't follow the answers, or the result is saved where there are some, or isn't where there are none."""
+    file = file_of([table])
+    ran = program.edit(file, script.encode(), ["edit", *words])
+    plain = program.edit(file, script.encode())
+    many = printed.count("\n")
+    errors, warnings = printed.count("+E"), printed.count("+W")
+    said = " and ".join(f"{count} new {what}{'s' * (count > 1)}" for count, what in ((errors, "error"), (warnings, "warning")) if count)
+    reported = f"fitsed: in.fits: not saved: {said}\n".encode() if many else b""
+    yield from differences(ran, status=int(many > 0), printed=printed.encode(), reported=reported, saved=None if many else plain.saved)

@@ -17,8 +17,8 @@ _fitsed() {
     esac
     case $command in
         keys) flags='--hdu --name --recursive --files0-from --verbose' ;;
-        edit) flags='--all --check --warnings --sums --in-place --done --no-clobber --safe --backup --line --file --with-filename --recursive --verbose' ;;
-        ask) flags='--line --file --with-filename --recursive --files0-from --verbose' ;;
+        edit) flags='--all --check --warnings --sums --tables --in-place --done --no-clobber --safe --backup --line --file --extended --with-filename --recursive --verbose' ;;
+        ask) flags='--line --file --extended --tables --with-filename --recursive --files0-from --verbose' ;;
         cards) flags='--hdu --name --files-without --null --with-filename --recursive --files0-from --verbose' ;;
         list | stat) flags='--with-filename --recursive --files0-from --verbose' ;;
         sum) flags='--check --with-filename --recursive --files0-from --verbose' ;;

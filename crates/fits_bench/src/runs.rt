@@ -13,6 +13,7 @@ pub const REPORT: Telling = Telling::Report {
     level: Level::All,
     strict: false,
     cards: false,
+    tables: false,
 };
 
 /// Its errors alone.
@@ -20,6 +21,7 @@ pub const ERRORS: Telling = Telling::Report {
     level: Level::Errors,
     strict: false,
     cards: false,
+    tables: false,
 };
 
 /// What runs came to.

@@ -24,11 +24,10 @@ use Rattle.fits_tell.specs.Faults.{fault_of_file}
 use Rattle.fits_cli.specs.Terms.{check_of}
 use Rattle.fits_cli.specs.declared.edited.Edited.{Edited}
 use Rattle.fits_tell.specs.declared.level.Level.TheVariants.{Quiet}
-use Rattle.fits_passing.specs.Report.{report_of}
-use Rattle.fits_passing.specs.declared.problem.Problem.{Problem}
 use Rattle.fits_cli.specs.declared.limits.TheConstants.{SCRIPT_LIMIT}
 use Rattle.fits_cli.specs.Remark.{remarks, Remarks}
 use Rattle.fits_cli.specs.Output.{Output, answers, standing_after, output_unopened, output_of_lines, output_too_long, IsOutputOf}
+use Rattle.fits_cli.specs.Reports.{reports_of, Reports}
 use Rattle.fits_cli.specs.Running.{Heard, heard, AnswersScript, AnswersTooLong, NeedsMemoryAt, ScriptLacksPixels, ScriptReadFails, ScriptWriteFails, ScriptStops, FlushesThen, FlushesAnswers, IsAnsweredRun}
 use Rattle.fits_cli.specs.Script.{script_lines}
 use Rattle.fits_tell.specs.declared.fault.Fault.{Fault}
@@ -346,8 +345,8 @@ StopsBy-script old new mid told told_after (Err (RereadFault why)) result fault 
     elim re [ inl stored ↦ StopsBy-pixels old new mid told told_after result why fault parts is stored opened of_file err flush | inr once ↦ absurd once ]
 
 -- nothing else is done
-pub answered_run : (old new : RunState) (mid : SinkState) (told told_after : Option SinkState) (answered result : Result (Unit {0}) Fault) (done : Unit {0}) (parts : FileParts) (now : Standing) (before : List Problem) → result ≡ Ok done
-    → GaveFile old.file new.file parts → IsQuiet old.stored old.file new.file → ((check_of old.terms.saves ≡ Quiet → ⊥) → before ≡ report_of parts)
+pub answered_run : (old new : RunState) (mid : SinkState) (told told_after : Option SinkState) (answered result : Result (Unit {0}) Fault) (done : Unit {0}) (parts : FileParts) (now : Standing) (before : Reports) → result ≡ Ok done
+    → GaveFile old.file new.file parts → IsQuiet old.stored old.file new.file → ((check_of old.terms.saves ≡ Quiet → ⊥) → before ≡ reports_of old.terms.tables parts)
     → OnOk answered (AnswersScript old.script new.script (at_first_line old.terms parts) now (heard old.printed told) (heard mid told_after)) → FlushesAnswers answered result mid new.printed → IsAnsweredRun old new told told_after now before
 answered_run old new mid told told_after (Ok a) result done parts now before is opened read before_is ok (inl flush) = record { parts = parts; opened = opened; read = read; mid = mid; script = ok; flush = flush.1; before_is = before_is }
 answered_run old new mid told told_after (Ok a) result done parts now before is opened read before_is ok (inr flush) = absurd (no_fault result done WriteFailed is flush.0)
@@ -399,7 +398,7 @@ AreToldOf-script terms file after old new held mid told told_after (Err WriteFai
     AreToldOf-first terms file after old new told told_after parts err.lines err.front.done err.front.others opened err.reached err.front.split err.front.told
 
 -- those of a run whose script was answered to its end, whatever ends it
-pub RemarksBy-answered : (old new : RunState) (told told_after : Option SinkState) (now : Standing) (before : List Problem) (result : Result Edited Fault) → IsAnsweredRun old new told told_after now before → RemarksBy old.terms old.file new.file old.script new.script told told_after result
+pub RemarksBy-answered : (old new : RunState) (told told_after : Option SinkState) (now : Standing) (before : Reports) (result : Result Edited Fault) → IsAnsweredRun old new told told_after now before → RemarksBy old.terms old.file new.file old.script new.script told told_after result
 RemarksBy-answered old new told told_after now before (Ok it) run =
     let done = run.script in
     record {

@@ -6,21 +6,18 @@ use Rattle.std.proofs.lemmas.Result.{err_from_is_err_and}
 use Rattle.fits_stream.specs.Stream.{SourceState, SinkState, Prints, PrintsFront}
 use Rattle.fits_stream.proofs.StreamLemmas.{quiet_read, Prints-flushed}
 use Rattle.fits_passing.specs.File.{file_bytes, FileParts}
-use Rattle.fits_passing.specs.Report.{report_of}
-use Rattle.fits_passing.specs.declared.problem.Problem.{Problem}
-use Rattle.fits_session.proofs.OrderLemmas.{in_order}
 use Rattle.fits_cli.specs.Answer.{Standing, at_first_line}
 use Rattle.fits_cli.specs.Ends.{end_of, EndsAs, EndsBy, FailsBy, IsDue, IsKeptBack, IsSaved, IsUnsound, NewErrorsFail, ReachesEnd, RunState, StopsBy, Succeeds}
 use Rattle.fits_cli.specs.Faults.{IsOnce, SaveFails}
-use Rattle.fits_cli.specs.NewErrors.{new_error_lines, new_errors, HasMoreErrors}
+use Rattle.fits_cli.specs.Reports.{new_error_count, new_lines, new_warning_count, reports_of, HasMore, Reports}
 use Rattle.fits_cli.specs.Output.{answers, output_of_lines, Output, saved_bytes, standing_after, status_of}
-use Rattle.fits_tell.specs.Report.{errors_in, warnings_in}
 use Rattle.fits_cli.specs.Running.{heard, IsAnsweredRun}
 use Rattle.fits_cli.specs.Script.{script_lines}
 use Rattle.fits_cli.specs.Terms.{asking, check_of, holds_back, is_whole}
 use Rattle.fits_cli.specs.Ends.{run_by}
 use Rattle.fits_cli.specs.declared.edited.Edited.{Edited}
 use Rattle.fits_cli.specs.declared.edited.Edited.TheVariants.{Done, KeptBack, Unsound}
+use Rattle.fits_cli.specs.declared.manner.Manner.{Manner}
 use Rattle.fits_tell.specs.declared.fault.Fault.{Fault}
 use Rattle.fits_tell.specs.declared.fault.Fault.TheVariants.{Memory, Reread as RereadFault}
 use Rattle.fits_tell.specs.declared.level.Level.{Level}
@@ -29,12 +26,11 @@ use Rattle.fits_tell.specs.declared.reread.Reread.TheVariants as again
 use Rattle.fits_cli.specs.declared.saves.Saves.{Saves}
 use Rattle.fits_cli.specs.declared.saves.Saves.TheVariants.{Made, Nothing}
 use Rattle.fits_cli.proofs.EditingLemmas.{output_whole, script_told}
-use Rattle.fits_cli.proofs.NewErrorLemmas.{more-new, more_counts, new-more}
-use Rattle.fits_tell.proofs.ReportLemmas.{all_counted}
+use Rattle.fits_cli.proofs.ReportsLemmas.{has_counts, none_new, some_new}
 use Rattle.fits_cli.proofs.ResultLemmas.{lines_file}
 
 -- the run at the end of its script
-unfoldable pub reaches_end : (old new last : RunState) (told told_after : Option SinkState) (now : Standing) (before : List Problem) → last.file ≡ new.file → last.script ≡ new.script → IsAnsweredRun old new told told_after now before → ReachesEnd old last new.printed
+unfoldable pub reaches_end : (old new last : RunState) (told told_after : Option SinkState) (now : Standing) (before : Reports) → last.file ≡ new.file → last.script ≡ new.script → IsAnsweredRun old new told told_after now before → ReachesEnd old last new.printed
 reaches_end old new last told told_after now before file script run =
     let done = run.script in
     let first : Standing = at_first_line old.terms run.parts in
@@ -52,18 +48,18 @@ reaches_end old new last told told_after now before file script run =
       };
       gave = rw file run.opened.gave;
       flushed = run.flush.flushed;
-      before = report_of run.parts;
-      after = report_of now.marked.file;
+      before = reports_of old.terms.tables run.parts;
+      after = reports_of old.terms.tables now.marked.file;
       before_is = record { file = run.parts; opened = run.opened.is; all = refl };
       after_is = record {
         file = (standing_after first (script_lines done.lines done.last)).marked.file;
         opened = lines_file first (script_lines done.lines done.last) run.opened.is;
-        all = ap (λ (s : Standing). report_of s.marked.file) done.answered.left;
+        all = ap (λ (s : Standing). reports_of old.terms.tables s.marked.file) done.answered.left;
       };
     }
 
 -- a run that wants no result saved
-pub Succeeds-asked : (old new : RunState) (saved : SinkState) (told told_after : Option SinkState) (now : Standing) (before : List Problem) → old.terms.saves ≡ Nothing → IsAnsweredRun old new told told_after now before → Succeeds old new saved saved (status_of now)
+pub Succeeds-asked : (old new : RunState) (saved : SinkState) (told told_after : Option SinkState) (now : Standing) (before : Reports) → old.terms.saves ≡ Nothing → IsAnsweredRun old new told told_after now before → Succeeds old new saved saved (status_of now)
 unfolding reaches_end
 Succeeds-asked old new saved told told_after now before nothing run = record {
   end = reaches_end old new new told told_after now before refl refl run;
@@ -72,7 +68,7 @@ Succeeds-asked old new saved told told_after now before nothing run = record {
 }
 
 -- lines that weren't done keep the result back
-pub Kept-back : (old new : RunState) (told told_after : Option SinkState) (now : Standing) (before : List Problem) → holds_back old.terms.saves now.refused ≡ true → IsAnsweredRun old new told told_after now before → IsKeptBack old new now.refused
+pub Kept-back : (old new : RunState) (told told_after : Option SinkState) (now : Standing) (before : Reports) → holds_back old.terms.saves now.refused ≡ true → IsAnsweredRun old new told told_after now before → IsKeptBack old new now.refused
 unfolding reaches_end standing_after
 Kept-back old new told told_after now before kept run = record {
   end = reaches_end old new new told told_after now before refl refl run;
@@ -81,43 +77,42 @@ Kept-back old new told told_after now before kept run = record {
 }
 
 -- no line does
-lines_done : (old new last : RunState) (told told_after : Option SinkState) (now : Standing) (before : List Problem) (file : last.file ≡ new.file) (script : last.script ≡ new.script) (run : IsAnsweredRun old new told told_after now before) → holds_back old.terms.saves now.refused ≡ false
+lines_done : (old new last : RunState) (told told_after : Option SinkState) (now : Standing) (before : Reports) (file : last.file ≡ new.file) (script : last.script ≡ new.script) (run : IsAnsweredRun old new told told_after now before) → holds_back old.terms.saves now.refused ≡ false
     → holds_back old.terms.saves (reaches_end old new last told told_after now before file script run).run.output.undone ≡ false
 unfolding reaches_end standing_after
 lines_done old new last told told_after now before file script run all = ap (λ (s : Standing). holds_back old.terms.saves s.refused) (sym run.script.answered.left) ∙ all
 
 -- memory is refused after the script
-pub Lacks-report : (old new : RunState) (told told_after : Option SinkState) (now : Standing) (before : List Problem) → IsAnsweredRun old new told told_after now before → holds_back old.terms.saves now.refused ≡ false → (check_of old.terms.saves ≡ Quiet → ⊥) → StopsBy old new Memory
+pub Lacks-report : (old new : RunState) (told told_after : Option SinkState) (now : Standing) (before : Reports) → IsAnsweredRun old new told told_after now before → holds_back old.terms.saves now.refused ≡ false → (check_of old.terms.saves ≡ Quiet → ⊥) → StopsBy old new Memory
 Lacks-report old new told told_after now before run all checked = inr (record {
   end = reaches_end old new new told told_after now before refl refl run;
   done = lines_done old new new told told_after now before refl refl run all;
   checked = checked;
 })
 
--- how many problems are new of those that count, since this report
-pub record AreNew (level : Level) (before : List Problem) (file : FileParts) (errors warnings : ℕ) : Type 0 where
-  pub errors_are : errors ≡ errors_in (new_errors level before (report_of file))
-  pub warnings_are : warnings ≡ warnings_in (new_errors level before (report_of file))
+-- how many problems are new of those that count, since these reports
+pub record AreNew (level : Level) (before : Reports) (tables : Bool) (file : FileParts) (errors warnings : ℕ) : Type 0 where
+  pub errors_are : errors ≡ new_error_count level before (reports_of tables file)
+  pub warnings_are : warnings ≡ new_warning_count level before (reports_of tables file)
 
 -- there are more where some are
-some-more : (level : Level) (before : List Problem) (file : FileParts) (errors warnings : ℕ) → AreNew level before file errors warnings → 0 < errors + warnings → HasMoreErrors level before (report_of file)
-some-more level before file errors warnings are some =
-    new-more level before (report_of file) (omega (arith, are.errors_are, are.warnings_are, some, all_counted (new_errors level before (report_of file))))
+some-more : (level : Level) (before : Reports) (tables : Bool) (file : FileParts) (errors warnings : ℕ) → AreNew level before tables file errors warnings → 0 < errors + warnings → HasMore level before (reports_of tables file)
+some-more level before tables file errors warnings are some = some_new level before (reports_of tables file) (omega (arith, are.errors_are, are.warnings_are, some))
 
--- and none where none is, also since the report of a run's file
-none-more : (level : Level) (before first : List Problem) (file : FileParts) (errors warnings : ℕ) → ((level ≡ Quiet → ⊥) → before ≡ first) → AreNew level before file errors warnings → errors + warnings ≤ 0 → HasMoreErrors level first (report_of file) → ⊥
-none-more level before first file errors warnings is are none more =
-    let own : HasMoreErrors level before (report_of file) = subst (λ (b : List Problem). HasMoreErrors level b (report_of file)) (sym (is (more_counts level first (report_of file) more))) more in
-    absurd (omega (arith, are.errors_are, are.warnings_are, none, all_counted (new_errors level before (report_of file)), more-new level before (report_of file) (in_order file) own))
+-- and none where none is, also since the reports of a run's file
+none-more : (level : Level) (before first : Reports) (tables : Bool) (file : FileParts) (errors warnings : ℕ) → ((level ≡ Quiet → ⊥) → before ≡ first) → AreNew level before tables file errors warnings → errors + warnings ≤ 0 → HasMore level first (reports_of tables file) → ⊥
+none-more level before first tables file errors warnings is are none more =
+    let own : HasMore level before (reports_of tables file) = subst (λ (b : Reports). HasMore level b (reports_of tables file)) (sym (is (has_counts level first (reports_of tables file) more))) more in
+    none_new level before tables file (omega (arith, are.errors_are, are.warnings_are, none)) own
 
--- the report of a run's file, where some are new
-its_report : (old new : RunState) (told told_after : Option SinkState) (now : Standing) (before : List Problem) (run : IsAnsweredRun old new told told_after now before) (errors warnings : ℕ) → AreNew (check_of old.terms.saves) before now.marked.file errors warnings → 0 < errors + warnings → before ≡ report_of run.parts
+-- the reports of a run's file, where some are new
+its_report : (old new : RunState) (told told_after : Option SinkState) (now : Standing) (before : Reports) (run : IsAnsweredRun old new told told_after now before) (errors warnings : ℕ) → AreNew (check_of old.terms.saves) before old.terms.tables now.marked.file errors warnings → 0 < errors + warnings → before ≡ reports_of old.terms.tables run.parts
 its_report old new told told_after now before run errors warnings are some =
-    run.before_is (more_counts (check_of old.terms.saves) before (report_of now.marked.file) (some-more (check_of old.terms.saves) before now.marked.file errors warnings are some))
+    run.before_is (has_counts (check_of old.terms.saves) before (reports_of old.terms.tables now.marked.file) (some-more (check_of old.terms.saves) before old.terms.tables now.marked.file errors warnings are some))
 
 -- problems are new
-pub Unsound-printed : (old new last : RunState) (told told_after : Option SinkState) (now : Standing) (before : List Problem) (errors warnings : ℕ) → last.file ≡ new.file → last.script ≡ new.script → IsAnsweredRun old new told told_after now before → holds_back old.terms.saves now.refused ≡ false
-    → AreNew (check_of old.terms.saves) before now.marked.file errors warnings → 0 < errors + warnings → Prints (new_error_lines (new_errors (check_of old.terms.saves) before (report_of now.marked.file))) new.printed last.printed → last.printed.unflushed ≡ 0
+pub Unsound-printed : (old new last : RunState) (told told_after : Option SinkState) (now : Standing) (before : Reports) (errors warnings : ℕ) → last.file ≡ new.file → last.script ≡ new.script → IsAnsweredRun old new told told_after now before → holds_back old.terms.saves now.refused ≡ false
+    → AreNew (check_of old.terms.saves) before old.terms.tables now.marked.file errors warnings → 0 < errors + warnings → Prints (new_lines (check_of old.terms.saves) before (reports_of old.terms.tables now.marked.file)) new.printed last.printed → last.printed.unflushed ≡ 0
     → IsUnsound old last errors warnings
 unfolding reaches_end
 Unsound-printed old new last told told_after now before errors warnings file script run all are some lines flushed =
@@ -126,7 +121,7 @@ Unsound-printed old new last told told_after now before errors warnings file scr
       answered = new.printed;
       end = reaches_end old new last told told_after now before file script run;
       done = lines_done old new last told told_after now before file script run all;
-      more = rw own at (some-more (check_of old.terms.saves) before now.marked.file errors warnings are some);
+      more = rw own at (some-more (check_of old.terms.saves) before old.terms.tables now.marked.file errors warnings are some);
       some = some;
       errors_are = rw own at are.errors_are;
       warnings_are = rw own at are.warnings_are;
@@ -135,8 +130,8 @@ Unsound-printed old new last told told_after now before errors warnings file scr
     }
 
 -- their lines can't be written
-pub New-errors-fail : (old new last : RunState) (told told_after : Option SinkState) (now : Standing) (before : List Problem) (errors warnings : ℕ) → last.file ≡ new.file → last.script ≡ new.script → IsAnsweredRun old new told told_after now before → holds_back old.terms.saves now.refused ≡ false
-    → AreNew (check_of old.terms.saves) before now.marked.file errors warnings → 0 < errors + warnings → PrintsFront (new_error_lines (new_errors (check_of old.terms.saves) before (report_of now.marked.file))) new.printed last.printed
+pub New-errors-fail : (old new last : RunState) (told told_after : Option SinkState) (now : Standing) (before : Reports) (errors warnings : ℕ) → last.file ≡ new.file → last.script ≡ new.script → IsAnsweredRun old new told told_after now before → holds_back old.terms.saves now.refused ≡ false
+    → AreNew (check_of old.terms.saves) before old.terms.tables now.marked.file errors warnings → 0 < errors + warnings → PrintsFront (new_lines (check_of old.terms.saves) before (reports_of old.terms.tables now.marked.file)) new.printed last.printed
     → NewErrorsFail old last
 unfolding reaches_end
 New-errors-fail old new last told told_after now before errors warnings file script run all are some lines =
@@ -145,36 +140,36 @@ New-errors-fail old new last told told_after now before errors warnings file scr
       answered = new.printed;
       end = reaches_end old new last told told_after now before file script run;
       done = lines_done old new last told told_after now before file script run all;
-      more = rw own at (some-more (check_of old.terms.saves) before now.marked.file errors warnings are some);
+      more = rw own at (some-more (check_of old.terms.saves) before old.terms.tables now.marked.file errors warnings are some);
       lines = rw own at lines;
     }
 
 -- what is wanted, and kept back by nothing, is due
-due_of : (saves : Saves) (output : Output) (before after : List Problem) (whole : Bool) (check : Level) → saves ≡ Made whole check → holds_back saves output.undone ≡ false → (HasMoreErrors (check_of saves) before after → ⊥) → IsDue saves output before after
+due_of : (saves : Saves) (output : Output) (before after : Reports) (whole : Bool) (check : Level) → saves ≡ Made whole check → holds_back saves output.undone ≡ false → (HasMore (check_of saves) before after → ⊥) → IsDue saves output before after
 due_of saves output before after whole check is done sound = rw is (rw is at done, rw is at sound)
 
 -- what is due is saved once it is printed and flushed
-saved_of : (saves : Saves) (output : Output) (before after : List Problem) (whole : Bool) (check : Level) (saved holds : SinkState) → saves ≡ Made whole check → IsDue saves output before after → Prints output.saved saved holds → holds.unflushed ≡ 0 → IsSaved saves output before after saved holds
+saved_of : (saves : Saves) (output : Output) (before after : Reports) (whole : Bool) (check : Level) (saved holds : SinkState) → saves ≡ Made whole check → IsDue saves output before after → Prints output.saved saved holds → holds.unflushed ≡ 0 → IsSaved saves output before after saved holds
 saved_of saves output before after whole check saved holds is due printed flushed = rw is (rw is at due, printed, flushed)
 
 -- nothing keeps the result from being saved
-is_due : (old new : RunState) (told told_after : Option SinkState) (now : Standing) (before : List Problem) (whole : Bool) (check : Level) (errors warnings : ℕ) (run : IsAnsweredRun old new told told_after now before) → old.terms.saves ≡ Made whole check → holds_back old.terms.saves now.refused ≡ false
-    → AreNew (check_of old.terms.saves) before now.marked.file errors warnings → errors + warnings ≤ 0
-    → IsDue old.terms.saves (reaches_end old new new told told_after now before refl refl run).run.output (report_of run.parts) (report_of now.marked.file)
+is_due : (old new : RunState) (told told_after : Option SinkState) (now : Standing) (before : Reports) (whole : Bool) (check : Level) (errors warnings : ℕ) (run : IsAnsweredRun old new told told_after now before) → old.terms.saves ≡ Made whole check → holds_back old.terms.saves now.refused ≡ false
+    → AreNew (check_of old.terms.saves) before old.terms.tables now.marked.file errors warnings → errors + warnings ≤ 0
+    → IsDue old.terms.saves (reaches_end old new new told told_after now before refl refl run).run.output (reports_of old.terms.tables run.parts) (reports_of old.terms.tables now.marked.file)
 is_due old new told told_after now before whole check errors warnings run is all are none =
     let done = lines_done old new new told told_after now before refl refl run all in
-    let sound = none-more (check_of old.terms.saves) before (report_of run.parts) now.marked.file errors warnings run.before_is are none in
-    due_of old.terms.saves _ (report_of run.parts) (report_of now.marked.file) whole check is done sound
+    let sound = none-more (check_of old.terms.saves) before (reports_of old.terms.tables run.parts) old.terms.tables now.marked.file errors warnings run.before_is are none in
+    due_of old.terms.saves _ (reports_of old.terms.tables run.parts) (reports_of old.terms.tables now.marked.file) whole check is done sound
 
 -- so it is saved
-pub Succeeds-saved : (old new : RunState) (saved holds : SinkState) (told told_after : Option SinkState) (now : Standing) (before : List Problem) (whole : Bool) (check : Level) (errors warnings : ℕ) → IsAnsweredRun old new told told_after now before → old.terms.saves ≡ Made whole check → holds_back old.terms.saves now.refused ≡ false
-    → AreNew (check_of old.terms.saves) before now.marked.file errors warnings → errors + warnings ≤ 0 → Prints (saved_bytes old.terms now) saved holds → holds.unflushed ≡ 0 → Succeeds old new saved holds (status_of now)
+pub Succeeds-saved : (old new : RunState) (saved holds : SinkState) (told told_after : Option SinkState) (now : Standing) (before : Reports) (whole : Bool) (check : Level) (errors warnings : ℕ) → IsAnsweredRun old new told told_after now before → old.terms.saves ≡ Made whole check → holds_back old.terms.saves now.refused ≡ false
+    → AreNew (check_of old.terms.saves) before old.terms.tables now.marked.file errors warnings → errors + warnings ≤ 0 → Prints (saved_bytes old.terms now) saved holds → holds.unflushed ≡ 0 → Succeeds old new saved holds (status_of now)
 unfolding reaches_end
 Succeeds-saved old new saved holds told told_after now before whole check errors warnings run is all are none printed flushed = record {
   end = reaches_end old new new told told_after now before refl refl run;
   status_is = ap status_of run.script.answered.left;
   result =
-      saved_of old.terms.saves _ (report_of run.parts) (report_of now.marked.file) whole check saved holds is (is_due old new told told_after now before whole check errors warnings run is all are none)
+      saved_of old.terms.saves _ (reports_of old.terms.tables run.parts) (reports_of old.terms.tables now.marked.file) whole check saved holds is (is_due old new told told_after now before whole check errors warnings run is all are none)
       (subst (λ (t : List ℕ). Prints t saved holds) (ap (saved_bytes old.terms) run.script.answered.left) printed) flushed;
 }
 
@@ -184,8 +179,8 @@ again_stored stored fault is (inl there) = there
 again_stored stored fault is (inr once) = absurd (subst IsOnce is once)
 
 -- or it can't be
-pub Saving-fails : (old new : RunState) (saved holds : SinkState) (told told_after : Option SinkState) (now : Standing) (before : List Problem) (whole : Bool) (check : Level) (errors warnings : ℕ) (fault : Fault) → IsAnsweredRun old new told told_after now before → old.terms.saves ≡ Made whole check → holds_back old.terms.saves now.refused ≡ false
-    → AreNew (check_of old.terms.saves) before now.marked.file errors warnings → errors + warnings ≤ 0 → (old.stored ≡ true) ⊎ IsOnce fault → SaveFails (saved_bytes old.terms now) saved holds fault → FailsBy old new saved holds fault
+pub Saving-fails : (old new : RunState) (saved holds : SinkState) (told told_after : Option SinkState) (now : Standing) (before : Reports) (whole : Bool) (check : Level) (errors warnings : ℕ) (fault : Fault) → IsAnsweredRun old new told told_after now before → old.terms.saves ≡ Made whole check → holds_back old.terms.saves now.refused ≡ false
+    → AreNew (check_of old.terms.saves) before old.terms.tables now.marked.file errors warnings → errors + warnings ≤ 0 → (old.stored ≡ true) ⊎ IsOnce fault → SaveFails (saved_bytes old.terms now) saved holds fault → FailsBy old new saved holds fault
 unfolding reaches_end
 Saving-fails old new saved holds told told_after now before whole check errors warnings fault run is all are none re (inl fails) =
     inr (inl (
@@ -216,17 +211,17 @@ ends_exit old new saved holds result why is fails = let exit = err_from_is_err_a
 pub EndsAs-free : (old new : RunState) (saved holds : SinkState) (result : Result Edited Fault) → is_whole old.terms.saves ≡ false → check_of old.terms.saves ≡ Quiet → EndsBy old new saved holds result → EndsAs old new saved holds (end_of result)
 EndsAs-free old new saved holds (Ok (Done status)) any quiet ends = ends
 EndsAs-free old new saved holds (Ok (KeptBack undone)) any quiet ends = absurd (let e = subst (λ w. (w && nat_lt 0 ends.0.end.run.output.undone) ≡ true) any ends.0.kept in cc)
-EndsAs-free old new saved holds (Ok (Unsound errors warnings)) any quiet ends = absurd (more_counts (check_of old.terms.saves) ends.0.end.before ends.0.end.after ends.0.more quiet)
+EndsAs-free old new saved holds (Ok (Unsound errors warnings)) any quiet ends = absurd (has_counts (check_of old.terms.saves) ends.0.end.before ends.0.end.after ends.0.more quiet)
 EndsAs-free old new saved holds (Err fault) any quiet ends = (ends, refl)
 
 -- a run that wants no result saved saves nothing
-pub EndsAs-asked : (stored : Bool) (file file_after script script_after : SourceState) (out out_after saved holds anywhere : SinkState) (result : Result Edited Fault)
-    → EndsBy (run_by asking stored file script out) (run_by asking stored file_after script_after out_after) saved holds result
-    → EndsAs (run_by asking stored file script out) (run_by asking stored file_after script_after out_after) anywhere anywhere (end_of result)
-EndsAs-asked stored file file_after script script_after out out_after saved holds anywhere result ends =
-    EndsAs-free (run_by asking stored file script out) (run_by asking stored file_after script_after out_after) anywhere anywhere result refl refl (moved result ends)
+pub EndsAs-asked : (manner : Manner) (stored : Bool) (file file_after script script_after : SourceState) (out out_after saved holds anywhere : SinkState) (result : Result Edited Fault)
+    → EndsBy (run_by (asking manner) stored file script out) (run_by (asking manner) stored file_after script_after out_after) saved holds result
+    → EndsAs (run_by (asking manner) stored file script out) (run_by (asking manner) stored file_after script_after out_after) anywhere anywhere (end_of result)
+EndsAs-asked manner stored file file_after script script_after out out_after saved holds anywhere result ends =
+    EndsAs-free (run_by (asking manner) stored file script out) (run_by (asking manner) stored file_after script_after out_after) anywhere anywhere result refl refl (moved result ends)
   where
-    moved : (r : Result Edited Fault) → EndsBy (run_by asking stored file script out) (run_by asking stored file_after script_after out_after) saved holds r → EndsBy (run_by asking stored file script out) (run_by asking stored file_after script_after out_after) anywhere anywhere r
+    moved : (r : Result Edited Fault) → EndsBy (run_by (asking manner) stored file script out) (run_by (asking manner) stored file_after script_after out_after) saved holds r → EndsBy (run_by (asking manner) stored file script out) (run_by (asking manner) stored file_after script_after out_after) anywhere anywhere r
     moved (Ok (Done status)) e = record { end = e.end; status_is = e.status_is; result = refl }
     moved (Ok (KeptBack undone)) e = (e.0, refl)
     moved (Ok (Unsound errors warnings)) e = (e.0, refl)

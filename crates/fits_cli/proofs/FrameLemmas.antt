@@ -3,6 +3,7 @@ use Rattle.std.proofs.Common.{◌≡◌, ◌⊎◌, ℕ, Bool, List, [], ◌++�
 use Rattle.std.specs.Result.{IfErr, IfOk, IsErrAnd, OnOk}
 use Rattle.std.proofs.lemmas.Result.{err_from_is_err_and}
 use Rattle.fits_unit.specs.Again.{CopyWrites, PrintsLike}
+use Rattle.fits_cli.specs.declared.manner.Manner.{Manner}
 use Rattle.fits_unit.specs.declared.again.CopyFault.{CopyFault}
 use Rattle.fits_unit.specs.declared.again.CopyFault.TheVariants.{Failed, Changed, Write}
 use Rattle.fits_stream.specs.Stream.{SinkState, SourceState, FailsToFlush, Flushes, StaysQuiet}
@@ -204,11 +205,11 @@ leaves_unread saves script out saved (opening.Open OpenMemory) = (script_none sc
 leaves_unread saves script out saved opening.Failed = (inr (refl, refl), refl)
 
 -- a run that saves nothing
-pub asks_leave : (script script' : SourceState) (out out' saved holds : SinkState) (result : Result Edited Fault) → LeavesAs asking script script' out out' saved holds result → AsksLeave script script' out out' (end_of result)
-asks_leave script script' out out' saved holds (Ok it) p = (p.answers, p.flushed)
-asks_leave script script' out out' saved holds (Err (Refused why)) p = (p.0, p.1)
-asks_leave script script' out out' saved holds (Err ScriptTooLong) p = (p.0, p.1)
-asks_leave script script' out out' saved holds (Err Memory) p = p.0
-asks_leave script script' out out' saved holds (Err ReadFailed) p = p.0
-asks_leave script script' out out' saved holds (Err WriteFailed) p = (p.0, elim p.1 [ inl part ↦ part.0 | inr never ↦ absurd never.2 ])
-asks_leave script script' out out' saved holds (Err (RereadFault why)) p = (p.0, p.1)
+pub asks_leave : (manner : Manner) (script script' : SourceState) (out out' saved holds : SinkState) (result : Result Edited Fault) → LeavesAs (asking manner) script script' out out' saved holds result → AsksLeave script script' out out' (end_of result)
+asks_leave manner script script' out out' saved holds (Ok it) p = (p.answers, p.flushed)
+asks_leave manner script script' out out' saved holds (Err (Refused why)) p = (p.0, p.1)
+asks_leave manner script script' out out' saved holds (Err ScriptTooLong) p = (p.0, p.1)
+asks_leave manner script script' out out' saved holds (Err Memory) p = p.0
+asks_leave manner script script' out out' saved holds (Err ReadFailed) p = p.0
+asks_leave manner script script' out out' saved holds (Err WriteFailed) p = (p.0, elim p.1 [ inl part ↦ part.0 | inr never ↦ absurd never.2 ])
+asks_leave manner script script' out out' saved holds (Err (RereadFault why)) p = (p.0, p.1)

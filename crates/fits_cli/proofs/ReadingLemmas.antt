@@ -15,7 +15,7 @@ unfolding kept_of
 kept_of-short line short = take_all (LINE_LIMIT + 1) line (omega arith)
 
 -- a number past a limit
-over_limit : (n limit : ℕ) → limit < n → nat_le n limit ≡ false
+pub over_limit : (n limit : ℕ) → limit < n → nat_le n limit ≡ false
 over_limit n limit over = search rules
 
 -- a longer one is too long

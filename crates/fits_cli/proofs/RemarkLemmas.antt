@@ -62,6 +62,7 @@ said_of_refused line number (reply.Done text) refused = cc
 said_of_refused line number (reply.Refused why clues) refused = refl
 said_of_refused line number reply.TooLong refused = refl
 said_of_refused line number (reply.NoCommand misfit) refused = refl
+said_of_refused line number (reply.Unmet why) refused = refl
 
 -- of one that was nothing is
 pub said_of_done : (line : List ℕ) (number : ℕ) (reply : Reply) → counts_as_refused reply ≡ false → [] ≡ remark_line number (remark_by line reply)
@@ -70,9 +71,10 @@ said_of_done line number (reply.Done text) done = refl
 said_of_done line number (reply.Refused why clues) done = cc
 said_of_done line number reply.TooLong done = cc
 said_of_done line number (reply.NoCommand misfit) done = cc
+said_of_done line number (reply.Unmet why) done = cc
 
 -- the remark that a reply has is the one on its line
-remark_lines : (standing : Standing) (line : List ℕ) (number : ℕ) (reply : Reply) → number ≡ standing.line
+pub remark_lines : (standing : Standing) (line : List ℕ) (number : ℕ) (reply : Reply) → number ≡ standing.line
     → remark_by line reply ≡ remark_on standing.marked line (reading_of line)
     → remark_line number (remark_by line reply) ≡ line_remark standing line
 unfolding line_remark
@@ -87,3 +89,13 @@ said_line state standing line number wanted reply None None at is on said = tt
 said_line state standing line number wanted reply None (Some b) at is on said = absurd said
 said_line state standing line number wanted reply (Some e) None at is on said = absurd said
 said_line state standing line number wanted reply (Some e) (Some b) at is on said = rw (← remark_lines standing line number reply at (on is)) said
+
+-- also where the line that it is said of is one of several
+pub said_last : {E : Type 0} (state : E → SinkState) (here : ℕ) (text : List ℕ) (number : ℕ) (wanted : Bool) (reply : Reply) (line : List ℕ) (told : Option E) (after : Option SinkState)
+    → number ≡ here → wanted ≡ is_some told
+    → (wanted ≡ true → remark_line here (remark_by line reply) ≡ text)
+    → Remarks (remark_line number (remark_by line reply)) (option_map state told) after → Remarks text (option_map state told) after
+said_last state here text number wanted reply line None None same is on said = tt
+said_last state here text number wanted reply line None (Some b) same is on said = absurd said
+said_last state here text number wanted reply line (Some e) None same is on said = absurd said
+said_last state here text number wanted reply line (Some e) (Some b) same is on said = rw (← on is, ← same) said

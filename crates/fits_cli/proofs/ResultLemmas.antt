@@ -1,6 +1,7 @@
 -- What a script makes of a file is a file.
-use Rattle.std.proofs.Common.{◌≡◌, ℕ, Bool, true, false, List, [], ◌∷◌, length, refl, subst, Option, None, Some}
+use Rattle.std.proofs.Common.{◌≡◌, ℕ, Bool, true, false, List, [], ◌∷◌, length, refl, subst, Option, None, Some, inl, inr}
 use Rattle.std.specs.Prelude.{Result, Ok, Err, if◌then◌else◌, nat_le}
+use Rattle.std.proofs.lemmas.Bool.{cases_Bool}
 use Rattle.fits_passing.specs.declared.verdicts.Verdicts.{Verdicts}
 use Rattle.fits_session.specs.Edit.{HasSizes}
 use Rattle.fits_passing.specs.File.{FileParts, IsFile, IsFileOf}
@@ -16,7 +17,8 @@ use Rattle.fits_script.specs.declared.misfit.Misfit.{Misfit}
 use Rattle.fits_script.specs.declared.limits.TheConstants.{LINE_LIMIT}
 use Rattle.fits_script.specs.declared.line_reading.LineReading.{LineReading}
 use Rattle.fits_script.specs.declared.line_reading.LineReading.TheVariants.{TooLong, NoCommand, Said}
-use Rattle.fits_cli.specs.Answer.{Standing, after_outcome, asked, kept_line, line_left, outcome_of, some_places, sums_asked, unless}
+use Rattle.fits_extended.specs.declared.unmet.Unmet.{Unmet}
+use Rattle.fits_cli.specs.Answer.{Standing, after_outcome, asked, done_last, is_last_done, kept_line, left_after, left_of, line_left, line_stands, outcome_of, plain_left, still_at, some_places, sums_asked, unless}
 use Rattle.fits_cli.specs.Output.{standing_after}
 use Rattle.fits_cli.proofs.SizeLemmas.{AllIn, IsSized, line_sized}
 
@@ -68,11 +70,25 @@ line_file standing line TooLong is p = p
 line_file standing line (NoCommand misfit) is p = p
 line_file standing line (Said command) is p = command_file standing command (said_line line command is) p
 
+-- plain lines that one line stands for do
+plains_file : (standing : Standing) (plains : List (List ℕ)) → IsFile standing.marked.file → IsFile (plain_left (done_last standing plains)).marked.file
+unfolding done_last
+plains_file standing [] p = line_file standing [] (reading_of []) refl p
+plains_file standing (plain ∷ others) p = elim (cases_Bool (is_last_done standing plain others)) [
+  | inl last ↦ rw last (line_file standing plain (reading_of plain) refl p)
+  | inr more ↦ rw more (plains_file (still_at standing (reading_of plain)) others (line_file standing plain (reading_of plain) refl p))
+]
+
+-- whatever a line stands for
+left_file : (standing : Standing) (stands : Result (List (List ℕ)) Unmet) → IsFile standing.marked.file → IsFile (left_of standing stands).marked.file
+left_file standing (Ok plains) p = plains_file standing plains p
+left_file standing (Err why) p = p
+
 -- all lines do
 pub lines_file : (standing : Standing) (lines : List (List ℕ)) → IsFile standing.marked.file → IsFile (standing_after standing lines).marked.file
-unfolding standing_after
+unfolding standing_after left_after
 lines_file standing [] p = p
-lines_file standing (line ∷ lines) p = lines_file (line_left standing (reading_of line)) lines (line_file standing line (reading_of line) refl p)
+lines_file standing (line ∷ lines) p = lines_file (left_after standing line) lines (left_file standing (line_stands standing line) p)
 
 -- the bytes of a file's parts are the file
 pub own_bytes : (bytes : List ℕ) (file : FileParts) → IsFileOf bytes file → IsFile file

@@ -1,14 +1,18 @@
 -- A script's lines, answered one after another as they come.
-use Rattle.std.proofs.Common.{◌≡◌, ℕ, zero, suc, ◌+◌, ◌<◌, List, [], ◌∷◌, ◌++◌, length, take, refl, ap, sym, ◌∙◌, append_assoc, arith, inl, inr, Some}
+use Rattle.std.proofs.Common.{◌≡◌, ℕ, zero, suc, ◌+◌, ◌<◌, List, [], ◌∷◌, ◌++◌, length, take, refl, ap, sym, ◌∙◌, append_assoc, arith, inl, inr, Bool, false, true, subst, Some, Ok, Err}
+use Rattle.std.specs.Prelude.{nat_le, Result, if◌then◌else◌}
 use Rattle.std.proofs.lemmas.Bool.{cases_lt}
 use Rattle.std.proofs.lemmas.List.{append-nil, take_all, take-append-le, length-take-le}
-use Rattle.fits_cli.specs.Answer.{Standing, line_answer, line_left, CommandWantsPixels, WantsPixels}
+use Rattle.fits_extended.specs.Stands.{standing_in, stands_for}
+use Rattle.fits_extended.specs.Words.{may_stand}
+use Rattle.fits_extended.specs.declared.unmet.Unmet.{Unmet}
+use Rattle.fits_cli.specs.Answer.{Standing, answer_of, answer_to, left_after, left_of, line_answer, line_left, line_stands, plain_answer, plain_left, AtOne, CommandWantsPixels, LineNeedsMemory, NeedsMemoryFor, PlainNeedsMemory, PlainWantsPixels, WantsPixels, WantsPixelsFor}
 use Rattle.fits_script.specs.declared.limits.TheConstants.{LINE_LIMIT}
 use Rattle.fits_script.specs.Line.{reading_of}
 use Rattle.fits_script.specs.declared.line_reading.LineReading.TheVariants.{TooLong}
 use Rattle.fits_cli.specs.Output.{answers, standing_after}
-use Rattle.fits_cli.specs.Remark.{line_remark, long_text, remark_line, remark_on, remarks}
-use Rattle.fits_cli.specs.Running.{Heard, AnswersLine, AnswersLines, LacksReply, LineStops, LinesStop, HasCome, HasStopped, Continues, PieceStops, EndsScript, EndStops, kept_of}
+use Rattle.fits_cli.specs.Remark.{line_remark, long_text, plain_remark, remark_line, remark_of, remark_on, remark_to, remarks}
+use Rattle.fits_cli.specs.Running.{Heard, AnswersAs, AnswersLine, AnswersLines, AnswersPlain, LacksReply, LineStops, LinesStop, PlainStops, StopsAs, HasCome, HasStopped, Continues, PieceStops, EndsScript, EndStops, kept_of}
 use Rattle.fits_cli.specs.Script.{HasNoLineFeed, script_lines}
 use Rattle.fits_tell.specs.declared.fault.Fault.{Fault}
 use Rattle.fits_tell.specs.declared.fault.Fault.TheVariants.{Refused, ScriptTooLong, Memory, ReadFailed, WriteFailed, Reread as RereadFault}
@@ -20,7 +24,8 @@ use Rattle.fits_session.specs.Marked.{Marked}
 use Rattle.fits_script.specs.declared.command.Command.{Command}
 use Rattle.fits_script.specs.declared.line_reading.LineReading.TheVariants.{Said}
 use Rattle.fits_cli.proofs.LinesLemmas.{IsCutInLines-none, IsCutInLines-open, IsCutInLines-line, IsCutInLines-append, a_cut}
-use Rattle.fits_cli.proofs.ReadingLemmas.{kept_of-short, reading_of-kept_of, reading_of-long}
+use Rattle.fits_cli.proofs.PlainsLemmas.{at_first, at_one, done_last-one}
+use Rattle.fits_cli.proofs.ReadingLemmas.{kept_of-short, over_limit, reading_of-long}
 use Rattle.fits_cli.proofs.RemarkLemmas.{Says-none, Says-more, Says-text, Remarks-same}
 use Rattle.fits_stream.proofs.StreamLemmas.{PrintsFront-more, PrintsFront-longer}
 
@@ -29,22 +34,22 @@ pub answers-append : (s : Standing) (xs ys : List (List ℕ)) → answers s (xs 
 unfolding answers standing_after
 answers-append s [] ys = refl
 answers-append s (x ∷ xs) ys =
-    let next : Standing = line_left s (reading_of x) in
-    ap (λ t. line_answer s (reading_of x) ++ t) (answers-append next xs ys) ∙ sym (append_assoc (line_answer s (reading_of x)) (answers next xs) (answers (standing_after next xs) ys))
+    let next : Standing = left_after s x in
+    ap (λ t. answer_to s x ++ t) (answers-append next xs ys) ∙ sym (append_assoc (answer_to s x) (answers next xs) (answers (standing_after next xs) ys))
 
 -- how things stand after lines, and after more lines
 pub standing_after-append : (s : Standing) (xs ys : List (List ℕ)) → standing_after s (xs ++ ys) ≡ standing_after (standing_after s xs) ys
 unfolding standing_after
 standing_after-append s [] ys = refl
-standing_after-append s (x ∷ xs) ys = standing_after-append (line_left s (reading_of x)) xs ys
+standing_after-append s (x ∷ xs) ys = standing_after-append (left_after s x) xs ys
 
 -- the answer to one line
-answers-one : (s : Standing) (x : List ℕ) → answers s (x ∷ []) ≡ line_answer s (reading_of x)
+answers-one : (s : Standing) (x : List ℕ) → answers s (x ∷ []) ≡ answer_to s x
 unfolding answers
-answers-one s x = append-nil (line_answer s (reading_of x))
+answers-one s x = append-nil (answer_to s x)
 
 -- how things stand after one
-standing_after-one : (s : Standing) (x : List ℕ) → standing_after s (x ∷ []) ≡ line_left s (reading_of x)
+standing_after-one : (s : Standing) (x : List ℕ) → standing_after s (x ∷ []) ≡ left_after s x
 unfolding standing_after
 standing_after-one s x = refl
 
@@ -63,13 +68,13 @@ pub remarks-append : (s : Standing) (xs ys : List (List ℕ)) → remarks s (xs 
 unfolding remarks standing_after
 remarks-append s [] ys = refl
 remarks-append s (x ∷ xs) ys =
-    let next : Standing = line_left s (reading_of x) in
-    ap (λ t. line_remark s x ++ t) (remarks-append next xs ys) ∙ sym (append_assoc (line_remark s x) (remarks next xs) (remarks (standing_after next xs) ys))
+    let next : Standing = left_after s x in
+    ap (λ t. remark_to s x ++ t) (remarks-append next xs ys) ∙ sym (append_assoc (remark_to s x) (remarks next xs) (remarks (standing_after next xs) ys))
 
 -- that on one line
-remarks-one : (s : Standing) (x : List ℕ) → remarks s (x ∷ []) ≡ line_remark s x
+remarks-one : (s : Standing) (x : List ℕ) → remarks s (x ∷ []) ≡ remark_to s x
 unfolding remarks
-remarks-one s x = append-nil (line_remark s x)
+remarks-one s x = append-nil (remark_to s x)
 
 -- on no line none is made
 pub remarks-none : (s : Standing) → remarks s [] ≡ []
@@ -78,7 +83,7 @@ remarks-none s = refl
 
 -- the remark on a line after others
 remarks-next : (lines : List (List ℕ)) (line : List ℕ) (before now : Standing) → now ≡ standing_after before lines
-    → remarks before (lines ++ line ∷ []) ≡ remarks before lines ++ line_remark now line
+    → remarks before (lines ++ line ∷ []) ≡ remarks before lines ++ remark_to now line
 remarks-next lines line before now left =
     remarks-append before lines (line ∷ []) ∙ ap (λ t. remarks before lines ++ t) (ap (λ s. remarks s (line ∷ [])) (sym left) ∙ remarks-one now line)
 
@@ -88,7 +93,7 @@ AnswersLines-none s held = record { said = Says-text [] _ [] _ held held (sym (a
 
 -- the answer to a line after others
 answers-next : (lines : List (List ℕ)) (line : List ℕ) (before now : Standing) → now ≡ standing_after before lines
-    → answers before (lines ++ line ∷ []) ≡ answers before lines ++ line_answer now (reading_of line)
+    → answers before (lines ++ line ∷ []) ≡ answers before lines ++ answer_to now line
 answers-next lines line before now left =
     answers-append before lines (line ∷ []) ∙ ap (λ t. answers before lines ++ t) (ap (λ s. answers s (line ∷ [])) (sym left) ∙ answers-one now line)
 
@@ -97,7 +102,7 @@ pub AnswersLines-more : (lines : List (List ℕ)) (line : List ℕ) (before now 
     → AnswersLines lines before now held holds → AnswersLine line now next holds more → AnswersLines (lines ++ line ∷ []) before next held more
 AnswersLines-more lines line before now next held holds more so_far one = record {
   said = Says-text _ _ _ _ held more (sym (answers-next lines line before now so_far.left)) (sym (remarks-next lines line before now so_far.left))
-      (Says-more held holds more (answers before lines) (line_answer now (reading_of line)) (remarks before lines) (line_remark now line) so_far.said one.said);
+      (Says-more held holds more (answers before lines) (answer_to now line) (remarks before lines) (remark_to now line) so_far.said one.said);
   left = one.left ∙ sym (standing_after-append before lines (line ∷ []) ∙ ap (λ s. standing_after s (line ∷ [])) (sym so_far.left) ∙ standing_after-one now line);
 }
 
@@ -129,36 +134,89 @@ HasCome-open script kept piece before now held holds none come = record {
   answered = come.answered;
 }
 
--- the remark on a line that is too long says so
-line_remark-long : (s : Standing) (line : List ℕ) → reading_of line ≡ TooLong → line_remark s line ≡ remark_line s.line (Some long_text)
-unfolding line_remark remark_on
-line_remark-long s line long = rw long refl
+-- what has this answer isn't answered, and what it needs and wants a line does too
+StopsAs-weaker : (text : List ℕ) (needs wants needs' wants' : Type 0) (held holds : Heard) (fault : Fault) → (needs → needs') → (wants → wants') → StopsAs text needs wants held holds fault → StopsAs text needs' wants' held holds fault
+StopsAs-weaker text needs wants needs' wants' held holds (Refused why) f g stops = stops
+StopsAs-weaker text needs wants needs' wants' held holds ScriptTooLong f g stops = stops
+StopsAs-weaker text needs wants needs' wants' held holds Memory f g stops = (f stops.0, stops.1)
+StopsAs-weaker text needs wants needs' wants' held holds ReadFailed f g stops = stops
+StopsAs-weaker text needs wants needs' wants' held holds WriteFailed f g stops = stops
+StopsAs-weaker text needs wants needs' wants' held holds (RereadFault why) f g stops = (stops.0, (g stops.1.0, stops.1.1))
 
--- so the remark on a line is that on what is kept of it
-line_remark-kept : (s : Standing) (line : List ℕ) → line_remark s (kept_of line) ≡ line_remark s line
-line_remark-kept s line =
+-- a line past the limit stands for itself, extended or not
+may_stand-long : (line : List ℕ) → LINE_LIMIT < length line → may_stand line ≡ false
+unfolding may_stand
+may_stand-long line long = rw (over_limit (length line) LINE_LIMIT long) refl
+
+stands-long : (s : Standing) (line : List ℕ) → LINE_LIMIT < length line → line_stands s line ≡ Ok (line ∷ [])
+unfolding stands_for
+stands-long s line long = of s.extended (may_stand line) (may_stand-long line long)
+  where
+    of : (extended may : Bool) → may ≡ false → (if extended then (if may then standing_in s.whole s.marked.file line else Ok (line ∷ [])) else Ok (line ∷ [])) ≡ Ok (line ∷ [])
+    of false may over = refl
+    of true may over = rw over refl
+
+-- what a line past the limit prints and leaves, and what is said of it
+answer_to-long : (s : Standing) (line : List ℕ) → LINE_LIMIT < length line → answer_to s line ≡ line_answer s TooLong
+unfolding answer_to
+answer_to-long s line long = ap (answer_of s) (stands-long s line long) ∙ ap plain_answer (done_last-one s line) ∙ ap (line_answer s) (reading_of-long line long)
+
+left_after-long : (s : Standing) (line : List ℕ) → LINE_LIMIT < length line → left_after s line ≡ line_left s TooLong
+unfolding left_after
+left_after-long s line long = ap (left_of s) (stands-long s line long) ∙ ap plain_left (done_last-one s line) ∙ ap (line_left s) (reading_of-long line long)
+
+remark_to-long : (s : Standing) (line : List ℕ) → LINE_LIMIT < length line → remark_to s line ≡ remark_line s.line (Some long_text)
+unfolding remark_to line_remark remark_on
+remark_to-long s line long = ap (remark_of s) (stands-long s line long) ∙ ap plain_remark (done_last-one s line) ∙ (rw (reading_of-long line long) refl)
+
+-- what is kept of a line past the limit is past it
+kept_of-over : (line : List ℕ) → LINE_LIMIT < length line → LINE_LIMIT < length (kept_of line)
+unfolding kept_of
+kept_of-over line long = let size : length (take (LINE_LIMIT + 1) line) ≡ LINE_LIMIT + 1 = length-take-le (LINE_LIMIT + 1) line (omega (arith, long)) in omega (arith, size)
+
+-- so what a line prints and leaves, and what is said of it, is decided by what is kept of it
+kept-same : {X : Type 0} (f : List ℕ → X) (long_is : X) (line : List ℕ) → ((text : List ℕ) → LINE_LIMIT < length text → f text ≡ long_is) → f (kept_of line) ≡ f line
+kept-same f long_is line long_so =
     elim (cases_lt LINE_LIMIT (length line)) [
-      | inl long ↦ line_remark-long s (kept_of line) (reading_of-kept_of line ∙ reading_of-long line long) ∙ sym (line_remark-long s line (reading_of-long line long))
-      | inr short ↦ ap (line_remark s) (kept_of-short line short)
+      | inl long ↦ long_so (kept_of line) (kept_of-over line long) ∙ sym (long_so line long)
+      | inr short ↦ ap f (kept_of-short line short)
     ]
 
 -- a line of which this is kept is answered
 AnswersLine-kept : (kept line : List ℕ) (before now : Standing) (held holds : Heard) → kept ≡ kept_of line → AnswersLine kept before now held holds → AnswersLine line before now held holds
-AnswersLine-kept kept line before now held holds is one =
-    let same : reading_of kept ≡ reading_of line = ap reading_of is ∙ reading_of-kept_of line in
-    record {
-      said = Says-text _ _ _ _ held holds (ap (line_answer before) same) (ap (line_remark before) is ∙ line_remark-kept before line) one.said;
-      left = one.left ∙ ap (line_left before) same;
-    }
+AnswersLine-kept kept line before now held holds is one = record {
+  said = Says-text _ _ _ _ held holds (ap (answer_to before) is ∙ kept-same (answer_to before) (line_answer before TooLong) line (answer_to-long before))
+      (ap (remark_to before) is ∙ kept-same (remark_to before) (remark_line before.line (Some long_text)) line (remark_to-long before)) one.said;
+  left = one.left ∙ ap (left_after before) is ∙ kept-same (left_after before) (line_left before TooLong) line (left_after-long before);
+}
+
+-- at a line past the limit no memory runs out, and it wants no pixels
+no_memory-long : (s : Standing) (line : List ℕ) → LINE_LIMIT < length line → NeedsMemoryFor s line → ⊥
+unfolding NeedsMemoryFor LineNeedsMemory
+no_memory-long s line long (inl finding) = absurd (let e : true ≡ false = sym finding.1 ∙ may_stand-long line long in cc)
+no_memory-long s line long (inr needs) =
+    let one : PlainNeedsMemory s line = at_one PlainNeedsMemory s line (rw (stands-long s line long) at needs) in
+    rw (reading_of-long line long) at one
+
+no_pixels-long : (s : Standing) (line : List ℕ) → LINE_LIMIT < length line → WantsPixelsFor s line → ⊥
+unfolding WantsPixelsFor WantsPixels
+no_pixels-long s line long wants =
+    let one : PlainWantsPixels s line = at_one PlainWantsPixels s line (rw (stands-long s line long) at wants) in
+    rw (reading_of-long line long) at one
+
+-- so what is kept of a line needs and wants, the line does
+kept-so : (P : List ℕ → Type 0) (line : List ℕ) → ((text : List ℕ) → LINE_LIMIT < length text → P text → ⊥) → P (kept_of line) → P line
+kept-so P line never p =
+    elim (cases_lt LINE_LIMIT (length line)) [ inl long ↦ absurd (never (kept_of line) (kept_of-over line long) p) | inr short ↦ subst P (kept_of-short line short) p ]
 
 -- or it isn't
 LineStops-kept : (kept line : List ℕ) (before : Standing) (held holds : Heard) (fault : Fault) → kept ≡ kept_of line → LineStops kept before held holds fault → LineStops line before held holds fault
-LineStops-kept kept line before held holds (Refused why) is stops = stops
-LineStops-kept kept line before held holds ScriptTooLong is stops = stops
-LineStops-kept kept line before held holds Memory is stops = (rw (← (ap reading_of is ∙ reading_of-kept_of line)) stops.0, stops.1)
-LineStops-kept kept line before held holds ReadFailed is stops = stops
-LineStops-kept kept line before held holds WriteFailed is stops = (rw (← (ap reading_of is ∙ reading_of-kept_of line)) stops.0, stops.1)
-LineStops-kept kept line before held holds (RereadFault why) is stops = (stops.0, (rw (← (ap reading_of is ∙ reading_of-kept_of line)) stops.1.0, stops.1.1))
+LineStops-kept kept line before held holds fault is stops =
+    let same : answer_to before kept ≡ answer_to before line = ap (answer_to before) is ∙ kept-same (answer_to before) (line_answer before TooLong) line (answer_to-long before) in
+    subst (λ text. StopsAs text (NeedsMemoryFor before line) (WantsPixelsFor before line) held holds fault) same
+    (StopsAs-weaker (answer_to before kept) (NeedsMemoryFor before kept) (WantsPixelsFor before kept) (NeedsMemoryFor before line) (WantsPixelsFor before line) held holds fault
+    (λ needs. kept-so (NeedsMemoryFor before) line (no_memory-long before) (subst (NeedsMemoryFor before) is needs))
+    (λ wants. kept-so (WantsPixelsFor before) line (no_pixels-long before) (subst (WantsPixelsFor before) is wants)) stops)
 
 -- what data weren't had again for is no change
 unchanged_of : (why : LoadFault) → (why ≡ load.Changed → ⊥) → IsUnchanged (reread_of why)
@@ -171,14 +229,52 @@ pub lacks_pixels : (it : Marked) (line : List ℕ) (command : Command) (why : Lo
 unfolding WantsPixels
 lacks_pixels it line command why is wants same = (unchanged_of why same, rw (← is) wants)
 
--- a line that has no answer isn't answered
-pub LineStops-reply : (line : List ℕ) (before : Standing) (held : Heard) (fault : Fault) → LacksReply before.marked (reading_of line) fault → LineStops line before held held fault
-LineStops-reply line before held (Refused why) lacks = absurd lacks
-LineStops-reply line before held ScriptTooLong lacks = absurd lacks
-LineStops-reply line before held Memory lacks = (lacks, refl)
-LineStops-reply line before held ReadFailed lacks = absurd lacks
-LineStops-reply line before held WriteFailed lacks = absurd lacks
-LineStops-reply line before held (RereadFault why) lacks = (lacks.0, (lacks.1, refl))
+-- a plain line that has no answer isn't answered
+pub PlainStops-reply : (line : List ℕ) (before : Standing) (held : Heard) (fault : Fault) → LacksReply before.marked (reading_of line) fault → PlainStops line before held held fault
+PlainStops-reply line before held (Refused why) lacks = absurd lacks
+PlainStops-reply line before held ScriptTooLong lacks = absurd lacks
+PlainStops-reply line before held Memory lacks = (lacks, refl)
+PlainStops-reply line before held ReadFailed lacks = absurd lacks
+PlainStops-reply line before held WriteFailed lacks = absurd lacks
+PlainStops-reply line before held (RereadFault why) lacks = (lacks.0, (lacks.1, refl))
+
+-- what a line stands for is answered
+pub AnswersLine-stands : (line : List ℕ) (stands : Result (List (List ℕ)) Unmet) (before now : Standing) (held holds : Heard) → line_stands before line ≡ stands
+    → AnswersAs (answer_of before stands) (remark_of before stands) (left_of before stands) now held holds → AnswersLine line before now held holds
+unfolding answer_to left_after remark_to
+AnswersLine-stands line stands before now held holds is one = rw is one
+
+-- also where that is one plain line
+pub AnswersLine-plain : (line plain : List ℕ) (before now : Standing) (held holds : Heard) → line_stands before line ≡ Ok (plain ∷ []) → AnswersPlain plain before now held holds → AnswersLine line before now held holds
+AnswersLine-plain line plain before now held holds is one =
+    AnswersLine-stands line (Ok (plain ∷ [])) before now held holds is
+    (subst (λ last. AnswersAs (plain_answer last) (plain_remark last) (plain_left last) now held holds) (sym (done_last-one before plain)) one)
+
+-- a line stands for plain ones that aren't answered
+pub LineStops-plains : (line : List ℕ) (plains : List (List ℕ)) (before : Standing) (held holds : Heard) (fault : Fault) → line_stands before line ≡ Ok plains
+    → StopsAs (answer_of before (Ok plains)) (AtOne PlainNeedsMemory before plains) (AtOne PlainWantsPixels before plains) held holds fault → LineStops line before held holds fault
+unfolding answer_to NeedsMemoryFor WantsPixelsFor
+LineStops-plains line plains before held holds fault is stops =
+    rw is (StopsAs-weaker (answer_of before (Ok plains)) (AtOne PlainNeedsMemory before plains) (AtOne PlainWantsPixels before plains) _ _ held holds fault (λ needs. inr needs) (λ wants. wants) stops)
+
+-- also where there is one
+pub LineStops-plain : (line plain : List ℕ) (before : Standing) (held holds : Heard) (fault : Fault) → line_stands before line ≡ Ok (plain ∷ []) → PlainStops plain before held holds fault → LineStops line before held holds fault
+LineStops-plain line plain before held holds fault is stops =
+    LineStops-plains line (plain ∷ []) before held holds fault is
+    (subst (λ last. StopsAs (plain_answer last) (AtOne PlainNeedsMemory before (plain ∷ [])) (AtOne PlainWantsPixels before (plain ∷ [])) held holds fault) (sym (done_last-one before plain))
+    (StopsAs-weaker (line_answer before (reading_of plain)) (LineNeedsMemory before.marked (reading_of plain)) (WantsPixels before.marked (reading_of plain)) _ _ held holds fault
+    (λ needs. at_first PlainNeedsMemory before plain [] needs) (λ wants. at_first PlainWantsPixels before plain [] wants) stops))
+
+-- it stands for none, and that isn't answered
+pub LineStops-unmet : (line : List ℕ) (why : Unmet) (before : Standing) (held holds : Heard) (fault : Fault) → line_stands before line ≡ Err why → StopsAs (answer_of before (Err why)) ⊥ ⊥ held holds fault → LineStops line before held holds fault
+unfolding answer_to NeedsMemoryFor WantsPixelsFor
+LineStops-unmet line why before held holds fault stands stops =
+    rw stands (StopsAs-weaker (answer_of before (Err why)) ⊥ ⊥ _ _ held holds fault (λ needs. absurd needs) (λ wants. wants) stops)
+
+-- memory is refused as it is found what a line stands for
+pub LineStops-finding : (line : List ℕ) (before : Standing) (held : Heard) → before.extended ≡ true → may_stand line ≡ true → LineStops line before held held Memory
+unfolding NeedsMemoryFor
+LineStops-finding line before held on may = (inl (on, may), refl)
 
 -- a line feed, and the line before it is answered
 HasCome-line : (script kept : List ℕ) (before now next : Standing) (held holds more : Heard)
@@ -212,12 +308,12 @@ LinesStop-line lines others line before now held holds more (RereadFault why) so
 )
 LinesStop-line lines others line before now held holds more WriteFailed so_far stops =
     let split : (lines ++ line ∷ []) ++ others ≡ lines ++ line ∷ others = append_assoc lines (line ∷ []) others in
-    let all : answers before (lines ++ line ∷ others) ≡ (answers before lines ++ line_answer now (reading_of line)) ++ answers (standing_after before (lines ++ line ∷ [])) others =
+    let all : answers before (lines ++ line ∷ others) ≡ (answers before lines ++ answer_to now line) ++ answers (standing_after before (lines ++ line ∷ [])) others =
     ap (answers before) (sym split) ∙ answers-append before (lines ++ line ∷ []) others ∙ ap (λ t. t ++ answers (standing_after before (lines ++ line ∷ [])) others) (answers-next lines line before now so_far.left) in
     record {
       printed =
-          rw all (PrintsFront-longer held.out more.out (answers before lines ++ line_answer now (reading_of line)) (answers (standing_after before (lines ++ line ∷ [])) others)
-          (PrintsFront-more held.out holds.out more.out (answers before lines) (line_answer now (reading_of line)) so_far.said.printed stops.0));
+          rw all (PrintsFront-longer held.out more.out (answers before lines ++ answer_to now line) (answers (standing_after before (lines ++ line ∷ [])) others)
+          (PrintsFront-more held.out holds.out more.out (answers before lines) (answer_to now line) so_far.said.printed stops.0));
       done = lines;
       others = line ∷ others;
       split = refl;

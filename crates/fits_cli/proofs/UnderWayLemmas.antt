@@ -89,7 +89,7 @@ like_hdus (one ∷ hdus) = (like_hdu one, like_hdus hdus)
 
 -- and the file
 like_none : (it : Marked) → IsLike it it
-like_none it = record { hdus = like_hdus it.file.hdus; tail = refl; kept = refl }
+like_none it = record { hdus = like_hdus it.file.hdus; tail = refl; kept = refl; tables = refl }
 
 -- an HDU whose data were loaded is like the one before
 loaded_hdu : (old new : HduState) → Loads old new → IsLikeHdu (parts_of old) (parts_of new)
@@ -112,7 +112,7 @@ loaded_alone : (h : ℕ) (old new : SessionState) → LoadsAlone h old new → I
 loaded_alone zero old new alone = rw alone.is (like_none (marked_of old))
 loaded_alone (suc i) old new alone =
     let loads : (one : HduState) → slice_get old.hdus i ≡ Some one → Loads one alone.now = λ one there. alone.loads i one (sym (add-one i)) there in
-    rw alone.is (record { hdus = loaded_hdus i alone.now old.hdus loads; tail = refl; kept = loaded_kept i alone.now old.hdus loads })
+    rw alone.is (record { hdus = loaded_hdus i alone.now old.hdus loads; tail = refl; kept = loaded_kept i alone.now old.hdus loads; tables = refl })
 
 -- or none was
 pub loaded_at : (h : ℕ) (old new : SessionState) → LoadsAt h old new → IsLike (marked_of old) (marked_of new)

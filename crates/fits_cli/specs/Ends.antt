@@ -9,19 +9,16 @@ use Rattle.fits_stream.specs.Stored.{ReadLogState}
 use Rattle.fits_stream.specs.Stream.{SourceState, SinkState, FailsOnce, Gains, IsDry, Prints, PrintsFront, StaysQuiet}
 use Rattle.fits_passing.specs.File.{file_bytes, FileParts, IsFile}
 use Rattle.fits_passing.specs.Opening.{HasOpenFault}
-use Rattle.fits_passing.specs.Report.{IsReportOf}
 use Rattle.fits_passing.specs.declared.open_fault.OpenFault.{OpenFault}
 use Rattle.fits_passing.specs.declared.problem.Problem.{Problem}
-use Rattle.fits_cli.specs.Answer.{at_first_line, LineNeedsMemory, WantsData}
+use Rattle.fits_cli.specs.Answer.{at_first_line, NeedsMemoryFor, Standing, WantsDataFor}
 use Rattle.fits_tell.specs.Faults.{status_of_fault}
 use Rattle.fits_cli.specs.Faults.{IsUnchanged}
 use Rattle.fits_cli.specs.declared.limits.TheConstants.{SCRIPT_LIMIT}
-use Rattle.fits_script.specs.Line.{reading_of}
 use Rattle.fits_cli.specs.Output.{answers, standing_after, Output, IsOutputOf}
 use Rattle.fits_cli.specs.Remark.{remarks, Remarks}
 use Rattle.fits_cli.specs.Script.{IsCutInLines, script_lines}
-use Rattle.fits_cli.specs.NewErrors.{new_error_lines, new_errors, HasMoreErrors}
-use Rattle.fits_tell.specs.Report.{errors_in, warnings_in}
+use Rattle.fits_cli.specs.Reports.{new_error_count, new_lines, new_warning_count, AreReportsOf, HasMore, Reports}
 use Rattle.fits_cli.specs.Terms.{check_of, holds_back, plain}
 use Rattle.fits_cli.specs.declared.edited.Edited.{Edited}
 use Rattle.fits_cli.specs.declared.edited.Edited.TheVariants.{Done, KeptBack, Unsound}
@@ -33,8 +30,6 @@ use Rattle.fits_tell.specs.declared.reread.Reread.TheVariants as again
 use Rattle.fits_cli.specs.declared.saves.Saves.{Saves}
 use Rattle.fits_cli.specs.declared.saves.Saves.TheVariants.{Made, Nothing}
 use Rattle.fits_cli.specs.declared.terms.Terms.{Terms}
-use Rattle.fits_session.specs.Marked.{Marked}
-use Rattle.fits_script.specs.declared.line_reading.LineReading.{LineReading}
 
 -- the terms of a run and the streams that come before what it saves, and whether the file is read again where its data are wanted
 pub record RunState : Type 0 where
@@ -105,24 +100,24 @@ pub record IsRun (old new : RunState) (answered : SinkState) (fault : Option Fau
   pub fault_is : output.fault ≡ fault
   pub read : ReadsWell old new
 
--- the script was answered to its end and the answers are flushed; what becomes of the result is up to its lines and to two reports, of the
+-- the script was answered to its end and the answers are flushed; what becomes of the result is up to its lines and to the reports of the
 -- bytes that were read and of those that the script makes of them
 pub record ReachesEnd (old new : RunState) (answered : SinkState) : Type 0 where
   pub run : IsRun old new answered None
   pub gave : Gave old.file new.file run.file
   pub flushed : answered.unflushed ≡ 0
-  pub before : List Problem
-  pub after : List Problem
-  pub before_is : IsReportOf before run.file
-  pub after_is : IsReportOf after run.output.made
+  pub before : Reports
+  pub after : Reports
+  pub before_is : AreReportsOf old.terms.tables before run.file
+  pub after_is : AreReportsOf old.terms.tables after run.output.made
 
 -- the result is to be saved: it is wanted, no line holds it back, and there are no more problems of a code that counts
-abbrev pub IsDue : Saves → Output → List Problem → List Problem → Type 0
+abbrev pub IsDue : Saves → Output → Reports → Reports → Type 0
 IsDue Nothing output before after = ⊥
-IsDue (Made whole check) output before after = (holds_back (Made whole check) output.undone ≡ false) × (HasMoreErrors check before after → ⊥)
+IsDue (Made whole check) output before after = (holds_back (Made whole check) output.undone ≡ false) × (HasMore check before after → ⊥)
 
 -- it is, and is flushed; or none is wanted, and nothing is saved
-abbrev pub IsSaved : Saves → Output → List Problem → List Problem → SinkState → SinkState → Type 0
+abbrev pub IsSaved : Saves → Output → Reports → Reports → SinkState → SinkState → Type 0
 IsSaved Nothing output before after saved holds = holds ≡ saved
 IsSaved (Made whole check) output before after saved holds =
     IsDue (Made whole check) output before after × Prints output.saved saved holds × (holds.unflushed ≡ 0)
@@ -144,11 +139,11 @@ pub record IsUnsound (old new : RunState) (errors warnings : ℕ) : Type 0 where
   pub answered : SinkState
   pub end : ReachesEnd old new answered
   pub done : holds_back old.terms.saves end.run.output.undone ≡ false
-  pub more : HasMoreErrors (check_of old.terms.saves) end.before end.after
+  pub more : HasMore (check_of old.terms.saves) end.before end.after
   pub some : 0 < errors + warnings
-  pub errors_are : errors ≡ errors_in (new_errors (check_of old.terms.saves) end.before end.after)
-  pub warnings_are : warnings ≡ warnings_in (new_errors (check_of old.terms.saves) end.before end.after)
-  pub lines : Prints (new_error_lines (new_errors (check_of old.terms.saves) end.before end.after)) answered new.printed
+  pub errors_are : errors ≡ new_error_count (check_of old.terms.saves) end.before end.after
+  pub warnings_are : warnings ≡ new_warning_count (check_of old.terms.saves) end.before end.after
+  pub lines : Prints (new_lines (check_of old.terms.saves) end.before end.after) answered new.printed
   pub flushed : new.printed.unflushed ≡ 0
 
 -- the file doesn't open, nor would it, whatever else might have come where no read had given none: no other stream was touched
@@ -165,21 +160,21 @@ pub record IsTooLong (old new : RunState) : Type 0 where
   pub printed : new.printed.unflushed ≡ 0
 
 -- a run stops at a line that needs this: the answers to the lines before it are flushed
-pub record StopsAtLine (Needs : Marked → LineReading → Type 0) (old new : RunState) : Type 0 where
+pub record StopsAtLine (Needs : Standing → List ℕ → Type 0) (old new : RunState) : Type 0 where
   pub parts : FileParts
   pub lines : List (List ℕ)
   pub line : List ℕ
   pub others : List (List ℕ)
   pub opened : GaveFile old.file new.file parts
   pub reached : HasLines old.script new.script (lines ++ line ∷ others)
-  pub needs : Needs (standing_after (at_first_line old.terms parts) lines).marked (reading_of line)
+  pub needs : Needs (standing_after (at_first_line old.terms parts) lines) line
   pub printed : Prints (answers (at_first_line old.terms parts) lines) old.printed new.printed
   pub flushed : new.printed.unflushed ≡ 0
 
 -- memory was refused: on the way to the first line, so that nothing is printed, or at a line
 pub record IsOutOfMemory (old new : RunState) : Type 0 where
   pub read : ReadsWell old new
-  pub printed : (new.script ≡ old.script × Prints [] old.printed new.printed) ⊎ StopsAtLine LineNeedsMemory old new
+  pub printed : (new.script ≡ old.script × Prints [] old.printed new.printed) ⊎ StopsAtLine NeedsMemoryFor old new
 
 -- memory was refused after the script, for the report of its result or the lines of new problems
 pub record LacksReport (old new : RunState) : Type 0 where
@@ -225,13 +220,13 @@ pub record NewErrorsFail (old new : RunState) : Type 0 where
   pub answered : SinkState
   pub end : ReachesEnd old new answered
   pub done : holds_back old.terms.saves end.run.output.undone ≡ false
-  pub more : HasMoreErrors (check_of old.terms.saves) end.before end.after
-  pub lines : PrintsFront (new_error_lines (new_errors (check_of old.terms.saves) end.before end.after)) answered new.printed
+  pub more : HasMore (check_of old.terms.saves) end.before end.after
+  pub lines : PrintsFront (new_lines (check_of old.terms.saves) end.before end.after) answered new.printed
 
 -- data that a line wants aren't had again
 pub record LacksData (old new : RunState) : Type 0 where
   pub read : ReadsWell old new
-  pub at : StopsAtLine WantsData old new
+  pub at : StopsAtLine WantsDataFor old new
 
 -- what stands before a fault that ends a run ahead of saving
 abbrev pub StopsBy : RunState → RunState → Fault → Type 0

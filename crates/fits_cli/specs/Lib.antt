@@ -3,9 +3,11 @@ pub mod Ends
 pub mod Faults
 pub mod Frame
 pub mod NewErrors
+pub mod NewTables
 pub mod Output
 pub mod Remark
 pub mod Reply
+pub mod Reports
 pub mod Running
 pub mod Script
 pub mod Terms

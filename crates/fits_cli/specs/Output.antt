@@ -4,9 +4,8 @@ use Rattle.fits_passing.specs.File.{FileParts, file_bytes, IsFileOf}
 use Rattle.fits_passing.specs.Opening.{HasOpenFault}
 use Rattle.fits_passing.specs.declared.open_fault.OpenFault.{OpenFault}
 use Rattle.fits_cli.specs.declared.limits.TheConstants.{SCRIPT_LIMIT}
-use Rattle.fits_script.specs.Line.{reading_of}
 use Rattle.fits_cli.specs.Script.{IsCutInLines, script_lines}
-use Rattle.fits_cli.specs.Answer.{Standing, at_first_line, line_answer, line_left}
+use Rattle.fits_cli.specs.Answer.{Standing, answer_to, at_first_line, left_after}
 use Rattle.fits_cli.specs.declared.terms.Terms.{Terms}
 use Rattle.fits_tell.specs.declared.fault.Fault.{Fault}
 use Rattle.fits_tell.specs.declared.fault.Fault.TheVariants.{Refused, ScriptTooLong}
@@ -14,12 +13,12 @@ use Rattle.fits_tell.specs.declared.fault.Fault.TheVariants.{Refused, ScriptTooL
 -- what lines print, one after another
 unfoldable pub answers : Standing → List (List ℕ) → List ℕ
 answers standing [] = []
-answers standing (line ∷ lines) = line_answer standing (reading_of line) ++ answers (line_left standing (reading_of line)) lines
+answers standing (line ∷ lines) = answer_to standing line ++ answers (left_after standing line) lines
 
 -- how things stand after them
 unfoldable pub standing_after : Standing → List (List ℕ) → Standing
 standing_after standing [] = standing
-standing_after standing (line ∷ lines) = standing_after (line_left standing (reading_of line)) lines
+standing_after standing (line ∷ lines) = standing_after (left_after standing line) lines
 
 -- 1 where a line was refused or bad, else 0
 abbrev pub status_of : Standing → ℕ

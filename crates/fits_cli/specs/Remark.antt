@@ -23,7 +23,10 @@ use Rattle.fits_script.specs.declared.command.Command.{Command}
 use Rattle.fits_script.specs.declared.command.Command.TheVariants.{Edit, Get, Positions}
 use Rattle.fits_script.specs.declared.line_reading.LineReading.{LineReading}
 use Rattle.fits_script.specs.declared.line_reading.LineReading.TheVariants.{TooLong, NoCommand, Said}
-use Rattle.fits_cli.specs.Answer.{Done, Standing, complaint, line_left, outcome_of}
+use Rattle.fits_extended.specs.Stands.{unmet_text}
+use Rattle.fits_extended.specs.declared.unmet.Unmet.{Unmet}
+use Rattle.fits_extended.specs.declared.unmet.Unmet.TheVariants as unmet
+use Rattle.fits_cli.specs.Answer.{Done, Standing, complaint, done_last, left_after, line_stands, outcome_of}
 use Rattle.fits_cli.specs.declared.clues.Clues.{Clues}
 use Rattle.fits_cli.specs.declared.reason.Reason.{Reason}
 use Rattle.fits_cli.specs.declared.reason.Reason.TheVariants.{CarriageReturn, SmallLetters, Unwritten, Plain}
@@ -110,6 +113,14 @@ reason_text why Plain = plain_text why
 abbrev pub refused_text : Refusal → Reason → List ℕ
 refused_text why reason = refusal_text why ++ (codes ": " ++ reason_text why reason)
 
+-- what is said of a line that stands for no plain line, since what it wants isn't so
+abbrev pub unmet_words : Unmet → List ℕ
+unmet_words unmet.Exists = codes "a keyword of the new name has a value"
+unmet_words unmet.Other = codes "the file isn't as the line wants it"
+
+abbrev pub unmet_remark : Unmet → List ℕ
+unmet_remark why = unmet_text why ++ (codes ": " ++ unmet_words why)
+
 -- what is said of a line that is past the limit
 abbrev pub long_text : List ℕ
 long_text = codes "a line has at most 100000 bytes"
@@ -120,6 +131,7 @@ remark_by line (reply.Done text) = None
 remark_by line (reply.Refused why clues) = Some (refused_text why (reason_of line clues why))
 remark_by line reply.TooLong = Some long_text
 remark_by line (reply.NoCommand misfit) = Some (misfit_text misfit)
+remark_by line (reply.Unmet why) = Some (unmet_remark why)
 
 -- the remark on a command that was refused
 abbrev pub outcome_remark : List ℕ → Command → Result Done Refusal → Option (List ℕ)
@@ -142,14 +154,27 @@ abbrev pub remark_line : ℕ → Option (List ℕ) → List ℕ
 remark_line number None = []
 remark_line number (Some text) = complaint number text
 
--- what is said of a line
+-- what is said of a plain line
 unfoldable pub line_remark : Standing → List ℕ → List ℕ
 line_remark standing line = remark_line standing.line (remark_on standing.marked line (reading_of line))
+
+-- what is said of plain lines that one line stands for: what is of the last of them that is done
+abbrev pub plain_remark : Standing × List ℕ → List ℕ
+plain_remark last = line_remark last.0 last.1
+
+-- what is said of what a line stands for
+abbrev pub remark_of : Standing → Result (List (List ℕ)) Unmet → List ℕ
+remark_of standing (Ok plains) = plain_remark (done_last standing plains)
+remark_of standing (Err why) = complaint standing.line (unmet_remark why)
+
+-- what is said of a line, whatever it stands for
+unfoldable pub remark_to : Standing → List ℕ → List ℕ
+remark_to standing line = remark_of standing (line_stands standing line)
 
 -- what is said of lines, one after another
 unfoldable pub remarks : Standing → List (List ℕ) → List ℕ
 remarks standing [] = []
-remarks standing (line ∷ lines) = line_remark standing line ++ remarks (line_left standing (reading_of line)) lines
+remarks standing (line ∷ lines) = remark_to standing line ++ remarks (left_after standing line) lines
 
 -- a text was written to a sink and passed on, as far as no call failed: one that does loses some of it, and ends nothing
 pub record IsSaid (text : List ℕ) (old new : SinkState) : Type 0 where

@@ -6,10 +6,11 @@ use Rattle.std.specs.declared.vec.Vec.{Vec}
 use Rattle.fits_making.specs.declared.refusal.Refusal.{Refusal as SessionRefusal}
 use Rattle.fits_making.specs.declared.refusal.Refusal.TheVariants.{Memory}
 use Rattle.fits_making.specs.Refusal.{refusal_text}
+use Rattle.fits_extended.specs.Stands.{unmet_text}
 use Rattle.fits_cli.specs.Answer.{complaint}
 use Rattle.fits_cli.specs.declared.clues.Clues.{Clues}
 use Rattle.fits_cli.specs.declared.reply.Reply.{Reply}
-use Rattle.fits_cli.specs.declared.reply.Reply.TheVariants.{Done, Refused, TooLong, NoCommand}
+use Rattle.fits_cli.specs.declared.reply.Reply.TheVariants.{Done, Refused, TooLong, NoCommand, Unmet}
 
 -- what is printed of line `number`
 abbrev pub reply_text : ℕ → Reply → List ℕ
@@ -17,6 +18,7 @@ reply_text number (Done text) = text.items
 reply_text number (Refused why clues) = complaint number (refusal_text why)
 reply_text number TooLong = complaint number (codes "too long")
 reply_text number (NoCommand misfit) = complaint number (codes "not a command")
+reply_text number (Unmet why) = complaint number (unmet_text why)
 
 -- the line was refused or bad
 abbrev pub counts_as_refused : Reply → Bool
@@ -24,6 +26,7 @@ counts_as_refused (Done text) = false
 counts_as_refused (Refused why clues) = true
 counts_as_refused TooLong = true
 counts_as_refused (NoCommand misfit) = true
+counts_as_refused (Unmet why) = true
 
 -- what the outcome of a command with these clues is to its line: out of memory alone ends the run
 abbrev pub settled : Clues → Result (Vec ℕ Global) SessionRefusal → Result Reply AllocError

@@ -11,13 +11,13 @@ use Rattle.fits_session.specs.Session.{kept_of as kept_hdus, marked_of, session_
 use Rattle.fits_passing.specs.declared.look.Look.{Look}
 use Rattle.fits_passing.specs.declared.look.Look.TheVariants.{All as LookAll}
 use Rattle.fits_passing.specs.File.{FileParts}
-use Rattle.fits_cli.specs.Answer.{Standing, at_first_line, line_answer, line_left, LineNeedsMemory, WantsData}
+use Rattle.fits_cli.specs.Answer.{Standing, answer_to, at_first_line, left_after, line_answer, line_left, LineNeedsMemory, NeedsMemoryFor, WantsData, WantsDataFor}
 use Rattle.fits_cli.specs.Ends.{run_by, CameTo, GaveFile, HasLines, IsQuiet, OverFile, RunState}
 use Rattle.fits_script.specs.declared.limits.TheConstants.{LINE_LIMIT}
 use Rattle.fits_cli.specs.declared.limits.TheConstants.{SCRIPT_LIMIT}
 use Rattle.fits_script.specs.Line.{reading_of}
 use Rattle.fits_cli.specs.Output.{answers, standing_after}
-use Rattle.fits_cli.specs.Remark.{line_remark, remarks, Remarks}
+use Rattle.fits_cli.specs.Remark.{line_remark, remark_to, remarks, Remarks}
 use Rattle.fits_cli.specs.Script.{IsCutInLines, script_lines}
 use Rattle.fits_stream.specs.Stream.{SourceState, SinkState, FailsOnce, FailsToFlush, Flushes, IsDry, Prints, PrintsFront, Reads, StaysQuiet}
 use Rattle.fits_tell.specs.declared.fault.Fault.{Fault}
@@ -27,23 +27,21 @@ use Rattle.fits_cli.specs.declared.terms.Terms.{Terms}
 use Rattle.fits_cli.specs.Faults.{IsUnchanged}
 use Rattle.fits_cli.specs.Terms.{check_of}
 use Rattle.fits_tell.specs.declared.level.Level.TheVariants.{Quiet}
-use Rattle.fits_passing.specs.Report.{report_of}
-use Rattle.fits_passing.specs.declared.problem.Problem.{Problem}
-use Rattle.fits_session.specs.Marked.{Marked}
+use Rattle.fits_cli.specs.Reports.{reports_of, Reports}
+use Rattle.fits_session.specs.Marked.{guarded, Marked}
 use Rattle.fits_script.specs.declared.line_reading.LineReading.{LineReading}
 
 -- a file under its script: how far it has come, how much of it was looked at, and what its reads gave
 pub record Progress : Type 0 where
   pub session : SessionState
+  pub tables : Bool
   pub line : ℕ
   pub refused : ℕ
   pub edited : Bool
+  pub whole : Bool
+  pub extended : Bool
   pub look : Look
   pub log : ReadLogState
-
--- how things stand where the file has these bytes, in which those data units lie that aren't in memory
-abbrev pub standing_at : List ℕ → Progress → Standing
-standing_at told it = record { marked = marked_of (session_at told it.session); line = it.line; refused = it.refused; edited = it.edited }
 
 -- of the lines before this one some were refused at most; the data units lie in each file that the reads may be of, and where all was
 -- looked at they are known
@@ -77,14 +75,30 @@ pub record IsLike (one : SessionState) (other : Marked) : Type 0 where
 
 -- how things stand over another file
 abbrev pub standing_over : Progress → Marked → Standing
-standing_over it had = record { marked = had; line = it.line; refused = it.refused; edited = it.edited }
+standing_over it had = record {
+  marked = had;
+  line = it.line;
+  refused = it.refused;
+  edited = it.edited;
+  whole = it.whole;
+  extended = it.extended
+}
+
+-- a file with marks, whose tables are kept as those of this one
+abbrev pub guarded_by : Progress → SessionState → Marked
+guarded_by it session = guarded it.tables (marked_of session)
+
+-- how things stand where the file has these bytes, in which those data units lie that aren't in memory
+abbrev pub standing_at : List ℕ → Progress → Standing
+standing_at told it = standing_over it (guarded_by it (session_at told it.session))
 
 -- a line is answered, and things stand as after it, over a file like the one that stands
 pub record RepliesLike (before now : Progress) (reading : LineReading) (text : List ℕ) : Type 0 where
   pub had : Marked
   pub like : IsLike before.session had
+  pub tables : had.tables ≡ before.tables
   pub text_is : text ≡ line_answer (standing_over before had) reading
-  pub left : standing_over now (marked_of now.session) ≡ line_left (standing_over before had) reading
+  pub left : standing_over now (guarded_by now now.session) ≡ line_left (standing_over before had) reading
 
 -- what hears of the lines: the sink of their answers, and that of remarks on them, if there is one
 pub record Heard : Type 0 where
@@ -108,22 +122,38 @@ pub record SaysFront (lines : List (List ℕ)) (before : Standing) (held holds :
   pub split : lines ≡ done ++ others
   pub told : Remarks (remarks before done) held.told holds.told
 
+-- this is answered and this remarked, and things stand so
+pub record AnswersAs (text remarked : List ℕ) (after now : Standing) (held holds : Heard) : Type 0 where
+  pub said : Says text remarked held holds
+  pub left : now ≡ after
+
 -- one line is answered, and things stand as after it
-pub record AnswersLine (line : List ℕ) (before now : Standing) (held holds : Heard) : Type 0 where
-  pub said : Says (line_answer before (reading_of line)) (line_remark before line) held holds
-  pub left : now ≡ line_left before (reading_of line)
+abbrev pub AnswersLine : List ℕ → Standing → Standing → Heard → Heard → Type 0
+AnswersLine line before now held holds = AnswersAs (answer_to before line) (remark_to before line) (left_after before line) now held holds
 
--- one line isn't answered: memory was refused at it, a write of its answer failed, or data that it wants aren't had again
+-- the same of a plain line
+abbrev pub AnswersPlain : List ℕ → Standing → Standing → Heard → Heard → Type 0
+AnswersPlain line before now held holds = AnswersAs (line_answer before (reading_of line)) (line_remark before line) (line_left before (reading_of line)) now held holds
+
+-- what has this answer isn't answered: memory was refused at it, a write of its answer failed, or data that it wants aren't had again
+abbrev pub StopsAs : List ℕ → Type 0 → Type 0 → Heard → Heard → Fault → Type 0
+StopsAs text needs wants held holds (Refused why) = ⊥
+StopsAs text needs wants held holds ScriptTooLong = ⊥
+StopsAs text needs wants held holds Memory = needs × (holds ≡ held)
+StopsAs text needs wants held holds ReadFailed = ⊥
+StopsAs text needs wants held holds WriteFailed = PrintsFront text held.out holds.out × (holds.told ≡ held.told)
+StopsAs text needs wants held holds (RereadFault why) = IsUnchanged why × (wants × (holds ≡ held))
+
+-- so it is with a line
 abbrev pub LineStops : List ℕ → Standing → Heard → Heard → Fault → Type 0
-LineStops line before held holds (Refused why) = ⊥
-LineStops line before held holds ScriptTooLong = ⊥
-LineStops line before held holds Memory = LineNeedsMemory before.marked (reading_of line) × (holds ≡ held)
-LineStops line before held holds ReadFailed = ⊥
-LineStops line before held holds WriteFailed =
-    PrintsFront (line_answer before (reading_of line)) held.out holds.out × (holds.told ≡ held.told)
-LineStops line before held holds (RereadFault why) = IsUnchanged why × (WantsData before.marked (reading_of line) × (holds ≡ held))
+LineStops line before held holds fault = StopsAs (answer_to before line) (NeedsMemoryFor before line) (WantsDataFor before line) held holds fault
 
--- a line has no answer: memory was refused at it, or data that it wants aren't had again
+-- and with a plain one
+abbrev pub PlainStops : List ℕ → Standing → Heard → Heard → Fault → Type 0
+PlainStops line before held holds fault =
+    StopsAs (line_answer before (reading_of line)) (LineNeedsMemory before.marked (reading_of line)) (WantsData before.marked (reading_of line)) held holds fault
+
+-- a plain line has no answer: memory was refused at it, or data that it wants aren't had again
 abbrev pub LacksReply : Marked → LineReading → Fault → Type 0
 LacksReply it reading (Refused why) = ⊥
 LacksReply it reading ScriptTooLong = ⊥
@@ -132,23 +162,27 @@ LacksReply it reading ReadFailed = ⊥
 LacksReply it reading WriteFailed = ⊥
 LacksReply it reading (RereadFault why) = IsUnchanged why × WantsData it reading
 
+-- so it is at one of plain lines, each in its turn
+abbrev pub LacksOne : Fault → Standing → List ℕ → Type 0
+LacksOne fault standing plain = LacksReply standing.marked (reading_of plain) fault
+
 -- these lines are answered, and things stand as after them
 pub record AnswersLines (lines : List (List ℕ)) (before now : Standing) (held holds : Heard) : Type 0 where
   pub said : Says (answers before lines) (remarks before lines) held holds
   pub left : now ≡ standing_after before lines
 
 -- the first of these lines are answered, and the next one needs this
-pub record StopsAt (Needs : Marked → LineReading → Type 0) (lines : List (List ℕ)) (before : Standing) (held holds : Heard) : Type 0 where
+pub record StopsAt (Needs : Standing → List ℕ → Type 0) (lines : List (List ℕ)) (before : Standing) (held holds : Heard) : Type 0 where
   pub done : List (List ℕ)
   pub line : List ℕ
   pub others : List (List ℕ)
   pub split : lines ≡ done ++ line ∷ others
-  pub needs : Needs (standing_after before done).marked (reading_of line)
+  pub needs : Needs (standing_after before done) line
   pub said : Says (answers before done) (remarks before done) held holds
 
 -- the next one may need memory
 abbrev pub NeedsMemoryAt : List (List ℕ) → Standing → Heard → Heard → Type 0
-NeedsMemoryAt lines before held holds = StopsAt LineNeedsMemory lines before held holds
+NeedsMemoryAt lines before held holds = StopsAt NeedsMemoryFor lines before held holds
 
 -- these lines aren't all answered
 abbrev pub LinesStop : List (List ℕ) → Standing → Heard → Heard → Fault → Type 0
@@ -157,7 +191,7 @@ LinesStop lines before held holds ScriptTooLong = ⊥
 LinesStop lines before held holds Memory = NeedsMemoryAt lines before held holds
 LinesStop lines before held holds ReadFailed = ⊥
 LinesStop lines before held holds WriteFailed = SaysFront lines before held holds
-LinesStop lines before held holds (RereadFault why) = IsUnchanged why × StopsAt WantsData lines before held holds
+LinesStop lines before held holds (RereadFault why) = IsUnchanged why × StopsAt WantsDataFor lines before held holds
 
 -- of a line that may go on as much is kept as decides what it comes to
 unfoldable pub kept_of : List ℕ → List ℕ
@@ -253,7 +287,7 @@ pub record ScriptLacksData (old new : SourceState) (before : Standing) (held hol
   pub quiet : StaysQuiet old new
   pub lines : List (List ℕ)
   pub reached : HasLines old new lines
-  pub at : StopsAt WantsData lines before held holds
+  pub at : StopsAt WantsDataFor lines before held holds
 
 -- why a script isn't answered to its end
 abbrev pub ScriptStops : SourceState → SourceState → Standing → Heard → Heard → Fault → Type 0
@@ -286,17 +320,17 @@ OverFirst stored terms first Is = (parts : FileParts) → first ≡ at_first_lin
 
 -- a file was opened, a script over it answered to its end, and the answers flushed; things stand so, and where problems count this was
 -- the report of the file
-pub record IsAnsweredRun (old new : RunState) (told told_after : Option SinkState) (now : Standing) (before : List Problem) : Type 0 where
+pub record IsAnsweredRun (old new : RunState) (told told_after : Option SinkState) (now : Standing) (before : Reports) : Type 0 where
   pub parts : FileParts
   pub opened : GaveFile old.file new.file parts
   pub read : IsQuiet old.stored old.file new.file
   pub mid : SinkState
   pub script : AnswersScript old.script new.script (at_first_line old.terms parts) now (heard old.printed told) (heard mid told_after)
   pub flush : Flushes mid new.printed
-  pub before_is : (check_of old.terms.saves ≡ Quiet → ⊥) → before ≡ report_of parts
+  pub before_is : (check_of old.terms.saves ≡ Quiet → ⊥) → before ≡ reports_of old.terms.tables parts
 
 -- this is so of each run that was answered so, and whose sink of answers stands so then and later
-abbrev pub OverAnswered : Terms → Bool → Standing → List Problem → SinkState → SinkState → (RunState → RunState → Type 0) → Type 0
+abbrev pub OverAnswered : Terms → Bool → Standing → Reports → SinkState → SinkState → (RunState → RunState → Type 0) → Type 0
 OverAnswered terms stored now before answered printed Is =
     (file after script script_after : SourceState) (held : SinkState) (told told_after : Option SinkState)
     → IsAnsweredRun (run_by terms stored file script held) (run_by terms stored after script_after answered) told told_after now before

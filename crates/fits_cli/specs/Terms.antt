@@ -4,6 +4,7 @@ use Rattle.fits_passing.specs.declared.look.Look.{Look}
 use Rattle.fits_passing.specs.declared.look.Look.TheVariants.{All, Headers}
 use Rattle.fits_tell.specs.declared.level.Level.{Level}
 use Rattle.fits_tell.specs.declared.level.Level.TheVariants.{Quiet}
+use Rattle.fits_cli.specs.declared.manner.Manner.{Manner}
 use Rattle.fits_cli.specs.declared.saves.Saves.{Saves}
 use Rattle.fits_cli.specs.declared.saves.Saves.TheVariants.{Made, Nothing}
 use Rattle.fits_cli.specs.declared.terms.Terms.{Terms}
@@ -22,13 +23,13 @@ abbrev pub check_of : Saves → Level
 check_of Nothing = Quiet
 check_of (Made whole check) = check
 
--- plain terms: no sums are kept right, and a file is saved whatever its script did
+-- plain terms: no sums are kept right, no tables are kept, and a file is saved whatever its script did
 abbrev pub plain : Terms
-plain = record { sums = false; spare = false; saves = Made false Quiet }
+plain = record { sums = false; extended = false; tables = false; spare = false; saves = Made false Quiet }
 
 -- the terms of a run that saves nothing
-abbrev pub asking : Terms
-asking = record { sums = false; spare = false; saves = Nothing }
+abbrev pub asking : Manner → Terms
+asking manner = record { sums = false; extended = manner.extended; tables = manner.tables; spare = false; saves = Nothing }
 
 -- how much of a stored file is looked at as it is opened: all of it where sums are kept right or problems count, else its headers
 abbrev pub look_by : Bool → Level → Look

@@ -1,9 +1,10 @@
 //! What a command makes of a file, and what it prints.
-ghost use Rattle.std.specs.Prelude.{◌≡◌, ◌++◌, IfOk, IfErr, OnOk, OnErr, Ok};
+ghost use Rattle.std.specs.Prelude.{◌≡◌, ◌++◌, true, IfOk, IfErr, OnOk, OnErr, Ok};
 ghost use Rattle.fits_session.specs.Away.{LieStill};
 ghost use Rattle.fits_session.specs.Session.{absences_of, marked_of};
 ghost use Rattle.fits_cli.specs.Answer.{offset_line, offset_lines};
-ghost use Rattle.fits_cli.specs.Answer.{absences_left, is_edit, outcome_of, CommandFails, IsReady};
+ghost use Rattle.fits_session.specs.Marked.{guarded};
+ghost use Rattle.fits_cli.specs.Answer.{absences_left, is_edit, keeps_tables, outcome_of, CommandFails, IsReady};
 
 use crate::kept_line::kept;
 use crate::pixel_answers::{rectangle, statistics, sums};
@@ -14,9 +15,51 @@ use fits_session::{HduOffsets, Holder, Refusal, Session};
 use fits_tell::{push_number, push_offsets, report_text};
 use std::alloc::{AllocError, Global};
 
-/// Does a command, and gives what it prints; or its refusal, which leaves the file and its marks.
+/// Does a command where tables are kept or not, and gives what it prints; or its refusal, which leaves
+/// the file and its marks.
+pub fn answer<H: Holder + Drop>(
+    alloc: Global,
+    session: &mut Session<H>,
+    tables: bool,
+    command: Command,
+) -> Result<Vec<u8>, Refusal>
+    requires { IsReady command session.old.hdus }
+    ensures ok { IfOk result (λ text. outcome_of (guarded tables (marked_of session.old)) command
+        ≡ Ok (record { text = text.items; left = guarded tables (marked_of session.new) })) }
+    ensures err { IfErr result (CommandFails (guarded tables (marked_of session.old)) command) }
+    ensures kept { OnErr result (marked_of session.new ≡ marked_of session.old) }
+    ensures stays { LieStill session.old.hdus session.new.hdus }
+    ensures absences { OnOk result (absences_of session.new.hdus
+        ≡ absences_left command (absences_of session.old.hdus)) }
+    ensures away { OnErr result (absences_of session.new.hdus ≡ absences_of session.old.hdus) }
+{
+    test_columns(session, tables, &command)?;
+    obey(alloc, session, command)
+}
+
+// Whether a command keeps the columns of tables, where they are kept.
+#[tactic(auto, unfolding(crate::specs::Answer::IsReady))]
+fn test_columns<H: Holder + Drop>(
+    session: &mut Session<H>,
+    tables: bool,
+    command: &Command,
+) -> Result<(), Refusal>
+    ensures ok { OnOk result (keeps_tables tables (marked_of session.old).file command.now ≡ true) }
+    ensures err { IfErr result (CommandFails (guarded tables (marked_of session.old)) command.now) }
+    ensures same { marked_of session.new ≡ marked_of session.old }
+    ensures ready { IsReady command.now session.old.hdus → IsReady command.now session.new.hdus }
+    ensures stays { LieStill session.old.hdus session.new.hdus }
+    ensures absences { absences_of session.new.hdus ≡ absences_of session.old.hdus }
+{
+    match command {
+        Command::Edit(edit) => session.test_columns(tables, edit),
+        _ => Ok(()),
+    }
+}
+
+// Does a command, whatever it makes of columns.
 #[tactic(auto, unfolding(crate::specs::Answer::outcome_of, crate::specs::Answer::OutcomeNeedsMemory, crate::specs::Answer::IsReady))]
-pub(crate) fn answer<H: Holder + Drop>(
+fn obey<H: Holder + Drop>(
     alloc: Global,
     session: &mut Session<H>,
     command: Command,

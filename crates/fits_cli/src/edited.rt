@@ -30,7 +30,7 @@ impl Edited {
 }
 
 /// How a run ended, whatever kept its result from being saved.
-pub(crate) fn end_of(edited: Result<Edited, Fault>) -> End
+pub fn end_of(edited: Result<Edited, Fault>) -> End
     ensures { result ≡ end_of edited }
 {
     match edited {

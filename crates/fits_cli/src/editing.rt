@@ -13,15 +13,17 @@ ghost use Rattle.fits_cli.specs.Faults.{FaultCounts, RunCounts};
 ghost use Rattle.fits_cli.specs.Frame.{AnswersLeave, EndLeaves, LeavesAs, PrintsSome, ResultLeaves, ScriptAnswers};
 ghost use Rattle.fits_cli.specs.Output.{saved_bytes};
 ghost use Rattle.fits_cli.specs.Ends.{run, run_by, AreToldOf, EndsAs, EndsBy, OverFile, OverReads, RemarksBy, StopsBy};
-ghost use Rattle.fits_cli.specs.Running.{standing_at, standing_over, FlushesAnswers, IsAnsweredRun, IsToldBy, OverAnswered, OverFirst};
+ghost use Rattle.fits_cli.specs.Reports.{read_reports};
+ghost use Rattle.fits_cli.specs.Running.{guarded_by, standing_at, standing_over, FlushesAnswers, IsAnsweredRun, IsToldBy, OverAnswered, OverFirst};
 
 use crate::edited::{Edited, end_of};
 use crate::remarking::Silence;
+use crate::reports::Reports;
 use crate::runner::Runner;
 use crate::saves::Saves;
 use crate::script::answer_script;
 use crate::terms::{PLAIN, Terms};
-use fits_session::{Holder, Problem, Session};
+use fits_session::{Holder, Session};
 use fits_stream::{ReadLog, Sink, Source, Stored};
 use fits_tell::{End, Fault, flush, print_at_once};
 use std::alloc::Global;
@@ -129,15 +131,15 @@ fn edit<H: Holder + Drop, S: Source, P: Sink, O: Sink, E: Sink>(
     told: &mut Option<E>,
 ) -> Result<Edited, Fault>
     requires unmarked { marked_of session ≡ unmarked (file_of session) }
-    requires lie { (told : List ℕ) → IsOf told log.old → AllLie told session.hdus }
+    requires lie { (bytes : List ℕ) → IsOf bytes log.old → AllLie bytes session.hdus }
     requires seen { look_of terms ≡ LookAll → All IsSeen session.hdus }
-    ensures ends { (told : List ℕ) → IsToldBy H.whole told log.new
-        → OverFile (not H.whole) (file_of (session_at told session)) (λ file after. EndsBy
+    ensures ends { (bytes : List ℕ) → IsToldBy H.whole bytes log.new
+        → OverFile (not H.whole) (file_of (session_at bytes session)) (λ file after. EndsBy
         (run_by terms (not H.whole) file (S.state script.old) (O.state out.old))
         (run_by terms (not H.whole) after (S.state script.new) (O.state out.new))
         (P.state saved.old) (P.state saved.new) result) }
-    ensures told { (told : List ℕ) → IsToldBy H.whole told log.new
-        → OverFile (not H.whole) (file_of (session_at told session)) (λ file after. RemarksBy terms file after
+    ensures told { (bytes : List ℕ) → IsToldBy H.whole bytes log.new
+        → OverFile (not H.whole) (file_of (session_at bytes session)) (λ file after. RemarksBy terms file after
         (S.state script.old) (S.state script.new)
         (option_map E.state told.old) (option_map E.state told.new) result) }
     ensures quiet { OnOk result (log.new.failures ≡ log.old.failures) }
@@ -165,11 +167,11 @@ fn run<H: Holder + Drop, S: Source, P: Sink, O: Sink, E: Sink>(
 ) -> Result<Edited, Fault>
     requires line { runner.old.line ≡ 1 }
     requires look { runner.old.look ≡ look_of terms }
-    ensures ends { (told : List ℕ) → IsToldBy H.whole told runner.new.log → OverFirst (not H.whole) terms (standing_at told runner.old) (λ file after. EndsBy
+    ensures ends { (bytes : List ℕ) → IsToldBy H.whole bytes runner.new.log → OverFirst (not H.whole) terms (standing_at bytes runner.old) (λ file after. EndsBy
         (run_by terms (not H.whole) file (S.state script.old) (O.state out.old))
         (run_by terms (not H.whole) after (S.state script.new) (O.state out.new))
         (P.state saved.old) (P.state saved.new) result) }
-    ensures told { (told : List ℕ) → IsToldBy H.whole told runner.new.log → OverFirst (not H.whole) terms (standing_at told runner.old) (λ file after. RemarksBy
+    ensures told { (bytes : List ℕ) → IsToldBy H.whole bytes runner.new.log → OverFirst (not H.whole) terms (standing_at bytes runner.old) (λ file after. RemarksBy
         terms file after (S.state script.old) (S.state script.new)
         (option_map E.state told.old) (option_map E.state told.new) result) }
     ensures quiet { OnOk result (runner.new.log.failures ≡ runner.old.log.failures) }
@@ -192,21 +194,21 @@ fn answered<H: Holder + Drop, S: Source, O: Sink, E: Sink>(
     script: &mut S,
     out: &mut O,
     told: &mut Option<E>,
-) -> Result<Vec<Problem>, Fault>
+) -> Result<Reports, Fault>
     requires line { runner.old.line ≡ 1 }
     requires look { runner.old.look ≡ look_of terms }
-    ensures ok { (told : List ℕ) → IsToldBy H.whole told runner.new.log → IfOk result (λ before. OverFirst (not H.whole) terms (standing_at told runner.old)
+    ensures ok { (bytes : List ℕ) → IsToldBy H.whole bytes runner.new.log → IfOk result (λ before. OverFirst (not H.whole) terms (standing_at bytes runner.old)
         (λ file after. IsAnsweredRun
         (run_by terms (not H.whole) file (S.state script.old) (O.state out.old))
         (run_by terms (not H.whole) after (S.state script.new) (O.state out.new))
         (option_map E.state told.old) (option_map E.state told.new)
-        (standing_at told runner.new) before.items)) }
-    ensures ordered { IfOk result (λ before. AllPairs IsListedBefore before.items) }
-    ensures err { (told : List ℕ) → IsToldBy H.whole told runner.new.log → IfErr result (λ fault. OverFirst (not H.whole) terms (standing_at told runner.old)
+        (standing_at bytes runner.new) (read_reports before))) }
+    ensures ordered { IfOk result (λ before. AllPairs IsListedBefore before.problems.items) }
+    ensures err { (bytes : List ℕ) → IsToldBy H.whole bytes runner.new.log → IfErr result (λ fault. OverFirst (not H.whole) terms (standing_at bytes runner.old)
         (λ file after. StopsBy
         (run_by terms (not H.whole) file (S.state script.old) (O.state out.old))
         (run_by terms (not H.whole) after (S.state script.new) (O.state out.new)) fault)) }
-    ensures told { (told : List ℕ) → IsToldBy H.whole told runner.new.log → OnErr result (OverFirst (not H.whole) terms (standing_at told runner.old)
+    ensures told { (bytes : List ℕ) → IsToldBy H.whole bytes runner.new.log → OnErr result (OverFirst (not H.whole) terms (standing_at bytes runner.old)
         (λ file after. AreToldOf terms file after (S.state script.old) (S.state script.new)
         (option_map E.state told.old) (option_map E.state told.new))) }
     ensures quiet { OnOk result (runner.new.log.failures ≡ runner.old.log.failures) }
@@ -220,7 +222,7 @@ fn answered<H: Holder + Drop, S: Source, O: Sink, E: Sink>(
     ensures follows { Follows runner.old.log runner.new.log }
     ensures look { runner.new.look ≡ runner.old.look }
 {
-    let before = runner.report_for(alloc, terms.saves.check())?;
+    let before = runner.report_for(alloc, terms.saves.check(), terms.tables)?;
     let answered = answer_script(alloc, runner, script, out, told);
     flush_answers(answered, out)?;
     Ok(before)
@@ -251,14 +253,14 @@ fn save_result<H: Holder + Drop, P: Sink, O: Sink>(
     alloc: Global,
     terms: Terms,
     runner: &mut Runner<H>,
-    before: &[Problem],
+    before: &Reports,
     saved: &mut P,
     out: &mut O,
 ) -> Result<Edited, Fault>
-    requires ordered { AllPairs IsListedBefore before.now }
+    requires ordered { AllPairs IsListedBefore before.now.problems.items }
     requires look { runner.old.look ≡ look_of terms }
-    ensures ends { (told : List ℕ) → IsToldBy H.whole told runner.new.log → OverAnswered terms (not H.whole)
-        (standing_at told runner.old) before.now (O.state out.old) (O.state out.new)
+    ensures ends { (bytes : List ℕ) → IsToldBy H.whole bytes runner.new.log → OverAnswered terms (not H.whole)
+        (standing_at bytes runner.old) (read_reports before.now) (O.state out.old) (O.state out.new)
         (λ old new. EndsBy old new (P.state saved.old) (P.state saved.new) result) }
     ensures quiet { OnOk result (runner.new.log.failures ≡ runner.old.log.failures) }
     ensures counted { IfErr result (FaultCounts runner.old.log.failures runner.new.log.failures) }
@@ -266,7 +268,7 @@ fn save_result<H: Holder + Drop, P: Sink, O: Sink>(
     ensures flushed { OnOk result ((O.state out.old).unflushed ≡ 0
         → (O.state out.new).unflushed ≡ 0) }
     ensures like { IfOk result (EndLeaves (look_of terms) terms.saves
-        (saved_bytes terms (standing_over runner.new (marked_of runner.new.session)))
+        (saved_bytes terms (standing_over runner.new (guarded_by runner.new runner.new.session)))
         (P.state saved.old) (P.state saved.new)) }
     ensures leaves { IfErr result (ResultLeaves terms.saves (O.state out.old) (O.state out.new)
         (P.state saved.old) (P.state saved.new)) }
@@ -278,7 +280,7 @@ fn save_result<H: Holder + Drop, P: Sink, O: Sink>(
             if runner.is_held_back(terms.saves) {
                 return Ok(Edited::KeptBack(runner.refused()));
             }
-            let found = runner.errors_since(alloc, check, before)?;
+            let found = runner.errors_since(alloc, check, terms.tables, before)?;
             if found.are_some() {
                 print_at_once(out, &found.text)?;
                 return Ok(Edited::Unsound {

@@ -10,7 +10,9 @@ mod edited;
 mod editing;
 mod kept_line;
 mod limits;
+mod manner;
 mod new_errors;
+mod new_tables;
 mod pixel_answers;
 mod places_line;
 mod readying;
@@ -18,20 +20,25 @@ mod reason;
 mod reasons;
 mod remarking;
 mod reply;
+mod reports;
 mod runner;
 mod saves;
 mod script;
+mod table_problems;
 mod terms;
 mod value_line;
 
+pub use answer::answer as answer_command;
 pub use asking::{run_ask, run_ask_stored};
-pub use edited::Edited;
+pub use edited::{Edited, end_of};
 pub use editing::{run_edit, run_edit_stored, run_edit_told};
 pub use fits_tell::{
     CardChoice, CardPlace, CardsEnd, End, Fault, FileFault, Level, NamePattern, Reread, Telling,
     run_cards, run_list, run_sum, run_telling, run_verify,
 };
 pub use limits::SCRIPT_LIMIT;
+pub use manner::Manner;
+pub use readying::ready;
 pub use saves::Saves;
 pub use terms::Terms;
 // The lines of a script are named here too.

@@ -1,5 +1,5 @@
 //! Problems of a report that another hasn't, of those that a level lists.
-ghost use Rattle.std.specs.Prelude.{◌≡◌, ◌++◌, List, AllPairs, IfOk, OnOk};
+ghost use Rattle.std.specs.Prelude.{◌≡◌, ◌+◌, ◌≤◌, ◌++◌, List, length, AllPairs, IfOk, OnOk};
 ghost use Rattle.fits_passing.specs.Report.{IsListedBefore};
 ghost use Rattle.fits_passing.specs.declared.problem.Problem.{Problem};
 ghost use Rattle.fits_tell.specs.Report.{errors_in, warnings_in};
@@ -57,6 +57,7 @@ pub(crate) fn errors_since(
         ≡ errors_in (new_errors level before.now after.now)) }
     ensures warnings { IfOk result (λ found. found.warnings
         ≡ warnings_in (new_errors level before.now after.now)) }
+    ensures few { IfOk result (λ found. found.errors + found.warnings ≤ length after.now) }
 {
     let had = counts_of(before);
     let has = counts_of(after);

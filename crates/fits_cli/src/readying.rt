@@ -13,7 +13,7 @@ use fits_unit::LoadFault;
 
 /// Has the data that a command wants in memory, or known.
 #[tactic(auto, unfolding(crate::specs::Answer::CommandWantsData, crate::specs::Answer::IsReady))]
-pub(crate) fn ready<H: Holder + Drop>(
+pub fn ready<H: Holder + Drop>(
     session: &mut Session<H>,
     command: &Command,
     log: &mut ReadLog,

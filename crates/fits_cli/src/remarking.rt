@@ -3,11 +3,12 @@ ghost use Rattle.std.specs.Prelude.{◌≡◌, OnErr, OnOk};
 ghost use Rattle.std.specs.Option.{option_map};
 ghost use Rattle.fits_stream.specs.Stream.{Prints, PrintsFront};
 ghost use Rattle.fits_cli.specs.Answer.{complaint};
-ghost use Rattle.fits_cli.specs.Remark.{plain_text, reason_text, refused_text, remark_by, remark_line, words_of, IsSaid, Remarks};
+ghost use Rattle.fits_cli.specs.Remark.{plain_text, reason_text, refused_text, remark_by, remark_line, unmet_remark, unmet_words, words_of, IsSaid, Remarks};
 
 use crate::reason::Reason;
 use crate::reasons::reason_of;
 use crate::reply::{Reply, counts_as_refused};
+use fits_extended::Unmet;
 use fits_script::{write_misfit, write_unwritable};
 use fits_session::Refusal;
 use fits_stream::{Sink, Watched, write_all};
@@ -78,6 +79,38 @@ fn write_remark<E: Sink>(sink: &mut E, line: &[u8], reply: &Reply<'_>) -> io::Re
         Reply::Refused(why, clues) => write_refused(sink, *why, reason_of(line, *clues, *why)),
         Reply::TooLong => write_all(sink, b"a line has at most 100000 bytes"),
         Reply::NoCommand(misfit) => write_misfit(sink, misfit),
+        Reply::Unmet(why) => write_unmet(sink, *why),
+    }
+}
+
+// Writes why a line stands for no plain line.
+#[tactic(auto, using(fits_stream::proofs::StreamLemmas::printing_steps))]
+fn write_unmet<E: Sink>(sink: &mut E, why: Unmet) -> io::Result<()>
+    ensures ok { OnOk result (Prints (unmet_remark why) (E.state sink.old) (E.state sink.new)) }
+    ensures err { OnErr result
+        (PrintsFront (unmet_remark why) (E.state sink.old) (E.state sink.new)) }
+{
+    write_all(sink, why.text().as_bytes())?;
+    write_all(sink, b": ")?;
+    write_words(sink, why)
+}
+
+// Writes the same in words.
+fn write_words<E: Sink>(sink: &mut E, why: Unmet) -> io::Result<()>
+    ensures ok { OnOk result (Prints (unmet_words why) (E.state sink.old) (E.state sink.new)) }
+    ensures err { OnErr result
+        (PrintsFront (unmet_words why) (E.state sink.old) (E.state sink.new)) }
+{
+    write_all(sink, unmet_words(why).as_bytes())
+}
+
+// What that is in words.
+fn unmet_words(why: Unmet) -> &'static str
+    ensures { result.now ≡ unmet_words why }
+{
+    match why {
+        Unmet::Exists => "a keyword of the new name has a value",
+        Unmet::Other => "the file isn't as the line wants it",
     }
 }
 

@@ -6,6 +6,7 @@ ghost use Rattle.fits_cli.specs.Reply.{counts_as_refused, reply_text, settled};
 
 use crate::clues::Clues;
 use crate::complaint::print_complaint;
+use fits_extended::Unmet;
 use fits_script::Misfit;
 use fits_session::Refusal;
 use fits_stream::Sink;
@@ -23,6 +24,8 @@ pub(crate) enum Reply<'a> {
     TooLong,
     /// It says no command, and this is why.
     NoCommand(Misfit<'a>),
+    /// It stands for no plain line, since what it wants isn't so.
+    Unmet(Unmet),
 }
 
 /// What the outcome of a command with these clues is to its line: out of memory alone ends the run.
@@ -45,7 +48,7 @@ pub(crate) fn counts_as_refused(reply: &Reply<'_>) -> bool
 {
     match reply {
         Reply::Done(_) => false,
-        Reply::Refused(_, _) | Reply::TooLong | Reply::NoCommand(_) => true,
+        Reply::Refused(_, _) | Reply::TooLong | Reply::NoCommand(_) | Reply::Unmet(_) => true,
     }
 }
 
@@ -61,5 +64,6 @@ pub(crate) fn print_reply<O: Sink>(out: &mut O, line: u64, reply: &Reply<'_>) ->
         Reply::Refused(why, _) => print_complaint(out, line, why.text()),
         Reply::TooLong => print_complaint(out, line, "too long"),
         Reply::NoCommand(_) => print_complaint(out, line, "not a command"),
+        Reply::Unmet(why) => print_complaint(out, line, why.text()),
     }
 }

@@ -2,19 +2,23 @@
 ghost use Rattle.std.specs.Prelude.{◌≡◌, true, All};
 ghost use Rattle.fits_cli.specs.Answer.{marked_first};
 ghost use Rattle.fits_session.specs.Away.{LieStill};
-ghost use Rattle.fits_session.specs.Marked.{unmarked};
+ghost use Rattle.fits_session.specs.Marked.{guarded, unmarked};
 ghost use Rattle.fits_session.specs.Session.{absences_of, file_of, marked_of, IsSeen};
 
 use crate::answer::{answer, is_edit};
 use crate::new_errors::{NewErrors, errors_since};
+use crate::new_tables::add_tables;
 use crate::readying::ready;
 use crate::reasons::clues_of;
 use crate::reply::{Reply, counts_as_refused, settled};
+use crate::reports::Reports;
 use crate::saves::Saves;
+use crate::table_problems::table_problems;
 use crate::terms::Terms;
+use fits_extended::{Stands, Unmet, plain_line};
 use fits_passing::Look;
 use fits_script::{LineReading, read_line};
-use fits_session::{Holder, Problem, Session};
+use fits_session::{Holder, Session};
 use fits_stream::{ReadLog, Sink};
 use fits_tell::{Fault, Level, flush};
 use std::alloc::{AllocError, Global};
@@ -24,6 +28,8 @@ use std::marker::Model;
 #[derive(Drop)]
 pub(crate) struct Runner<H: Holder + Drop> {
     session: Session<H>,
+    /// Whether the columns of its tables are kept.
+    tables: bool,
     /// The reads of its file so far.
     log: ReadLog,
     /// How much of its file was looked at as it was opened.
@@ -34,6 +40,10 @@ pub(crate) struct Runner<H: Holder + Drop> {
     refused: u64,
     /// Whether a line so far was an edit that was accepted.
     edited: bool,
+    /// Whether every line is to be done.
+    whole: bool,
+    /// Whether extended lines are taken.
+    extended: bool,
 }
 
 impl<H: Holder + Drop> Model for Runner<H> {
@@ -43,9 +53,12 @@ impl<H: Holder + Drop> Model for Runner<H> {
 
     ghost view = { λ runner. record {
       session = runner.session;
+      tables = runner.tables;
       line = runner.line;
       refused = runner.refused;
       edited = runner.edited;
+      whole = runner.whole;
+      extended = runner.extended;
       look = runner.look;
       log = runner.log;
     } };
@@ -60,21 +73,22 @@ impl<H: Holder + Drop> Runner<H> {
     ghost use Rattle.fits_stream.specs.Stream.{Prints};
     ghost use Rattle.fits_unit.specs.Again.{Follows, PrintsAs};
     ghost use Rattle.fits_session.specs.Away.{AllLie};
-    ghost use Rattle.fits_cli.specs.Answer.{at_first_line, line_answer, line_left, LineNeedsMemory};
+    ghost use Rattle.fits_cli.specs.Answer.{at_first_line, line_answer, line_left, line_stands, LineNeedsMemory};
+    ghost use Rattle.fits_extended.specs.Stands.{stood};
+    ghost use Rattle.fits_extended.specs.Words.{may_stand};
     ghost use Rattle.fits_script.specs.Line.{reading_of};
     ghost use Rattle.fits_cli.specs.Output.{saved_bytes, status_of};
     ghost use Rattle.fits_cli.specs.Remark.{remark_by, remark_on};
-    ghost use Rattle.fits_tell.specs.Report.{errors_in, warnings_in};
     ghost use Rattle.fits_cli.specs.Reply.{counts_as_refused, reply_text};
     ghost use Rattle.fits_cli.specs.Faults.{FaultCounts, IsOnce, SaveFails};
     ghost use Rattle.fits_cli.specs.Frame.{HasTotalBy, IsUnanswered, SavingLeaves};
-    ghost use Rattle.fits_cli.specs.Running.{standing_at, standing_over, IsToldBy, LacksReply, RepliesLike};
-    ghost use Rattle.fits_cli.specs.NewErrors.{new_error_lines, new_errors};
+    ghost use Rattle.fits_cli.specs.Running.{guarded_by, standing_at, standing_over, IsToldBy, LacksReply, RepliesLike};
+    ghost use Rattle.fits_cli.specs.Reports.{new_error_count, new_lines, new_warning_count, read_reports, reports_of};
     ghost use Rattle.fits_cli.specs.Terms.{holds_back, look_of};
     ghost use Rattle.fits_passing.specs.declared.look.Look.TheVariants.{All as LookAll};
     ghost use Rattle.fits_tell.specs.declared.level.Level.TheVariants.{Quiet};
     ghost use Rattle.fits_session.specs.Marked.{unmarked};
-    ghost use Rattle.fits_passing.specs.Report.{report_of, IsListedBefore};
+    ghost use Rattle.fits_passing.specs.Report.{IsListedBefore};
     ghost use Rattle.fits_session.specs.Session.{file_of, marked_of, session_at, IsSeen};
 
     /// Before the first line, on these terms: where right sums are kept right, each HDU is kept stamped
@@ -92,11 +106,14 @@ impl<H: Holder + Drop> Runner<H> {
         keep_first(&mut session, terms);
         Runner {
             session,
+            tables: terms.tables,
             log,
             look: terms.look(),
             line: 1,
             refused: 0,
             edited: false,
+            whole: terms.saves.whole(),
+            extended: terms.extended,
         }
     }
 
@@ -124,7 +141,8 @@ impl<H: Holder + Drop> Runner<H> {
 
     /// How many lines were refused or bad.
     pub(crate) fn refused(&self) -> u64
-        ensures { result ≡ self.now.refused }
+        ensures value { result ≡ self.now.refused }
+        ensures few { result < self.now.line }
     {
         self.refused
     }
@@ -136,7 +154,39 @@ impl<H: Holder + Drop> Runner<H> {
         saves.whole() && self.refused > 0
     }
 
-    /// Does what a line says, and goes on to the next one. Where clues are wanted the reply has them.
+    /// What a line stands for as things stand.
+    pub(crate) fn stands_for(&mut self, alloc: Global, line: &[u8]) -> Result<Stands, AllocError>
+        ensures ok { (told : List ℕ) → IfOk result (λ it. stood line.now it
+            ≡ line_stands (standing_at told self.old) line.now) }
+        ensures err { OnErr result (self.old.extended ≡ true) }
+        ensures may { OnErr result (may_stand line.now ≡ true) }
+        ensures same { self.new ≡ self.old }
+    {
+        if !self.extended {
+            return Ok(Stands::Itself);
+        }
+        plain_line(alloc, &mut self.session, self.whole, line)
+    }
+
+    /// Goes on to the next line, after one that stands for no plain line.
+    pub(crate) fn refuse<'a>(&mut self, why: Unmet) -> Reply<'a>
+        requires { self.old.line + 1 < 2 ^ 64 }
+        ensures reply { result ≡ Reply.Unmet why }
+        ensures left { self.new ≡ record self.old { line = self.old.line + 1; refused = self.old.refused + 1 } }
+    {
+        self.pass(Reply::Unmet(why), false)
+    }
+
+    /// Stays at a line of the script, after a plain one that it stands for.
+    pub(crate) fn stay(&mut self, line: u64)
+        requires { self.old.refused < line }
+        ensures { self.new ≡ record self.old { line = line } }
+    {
+        self.line = line;
+    }
+
+    /// Does what a plain line says, and goes on to the next one. Where clues are wanted the reply has
+    /// them.
     #[tactic(auto, unfolding(crate::specs::Answer::line_answer, crate::specs::Answer::line_left, crate::specs::Answer::LineNeedsMemory, crate::specs::Remark::remark_by, crate::specs::Remark::remark_on))]
     pub(crate) fn reply<'a>(
         &mut self,
@@ -171,7 +221,10 @@ impl<H: Holder + Drop> Runner<H> {
                 ready(&mut self.session, &command, &mut self.log)?;
                 let clues = clues_of(wanted, &command);
                 let edits = is_edit(&command);
-                let reply = settled(clues, answer(alloc, &mut self.session, command))?;
+                let reply = settled(
+                    clues,
+                    answer(alloc, &mut self.session, self.tables, command),
+                )?;
                 Ok(self.pass(reply, edits))
             }
             Err(refused) => Err(Fault::from(refused)),
@@ -197,60 +250,69 @@ impl<H: Holder + Drop> Runner<H> {
         reply
     }
 
-    /// What is wrong with the file as it stands, where a level lists any of it.
+    /// What is wrong with the file as it stands, and with its tables where they are judged, where a
+    /// level lists any of it.
     pub(crate) fn report_for(
         &mut self,
         alloc: Global,
         level: Level,
-    ) -> Result<Vec<Problem>, AllocError>
+        tables: bool,
+    ) -> Result<Reports, AllocError>
         requires { (level ≡ Quiet → ⊥) → self.old.look ≡ LookAll }
         ensures value { (level ≡ Quiet → ⊥) → (told : List ℕ) → IsToldBy H.whole told self.old.log
-            → IfOk result (λ report. report.items ≡ report_of (standing_at told self.old).marked.file) }
-        ensures ordered { IfOk result (λ report. AllPairs IsListedBefore report.items) }
+            → IfOk result (λ reports. read_reports reports
+            ≡ reports_of tables (standing_at told self.old).marked.file) }
+        ensures ordered { IfOk result (λ reports. AllPairs IsListedBefore reports.problems.items) }
         ensures left { self.new ≡ self.old }
     {
         if let Level::Quiet = level {
-            return Ok(Vec::new(alloc));
+            return Ok(Reports::none(alloc));
         }
-        self.report()
+        self.reports(alloc, tables)
     }
 
-    // What is wrong with the file as it stands.
-    fn report(&mut self) -> Result<Vec<Problem>, AllocError>
+    // What is wrong with the file as it stands, and with its tables where they are judged.
+    #[tactic(auto, unfolding(crate::specs::Reports::reports_of))]
+    fn reports(&mut self, alloc: Global, tables: bool) -> Result<Reports, AllocError>
         requires { self.old.look ≡ LookAll }
         ensures value { (told : List ℕ) → IsToldBy H.whole told self.old.log
-            → IfOk result (λ report. report.items ≡ report_of (standing_at told self.old).marked.file) }
-        ensures ordered { IfOk result (λ report. AllPairs IsListedBefore report.items) }
+            → IfOk result (λ reports. read_reports reports
+            ≡ reports_of tables (standing_at told self.old).marked.file) }
+        ensures ordered { IfOk result (λ reports. AllPairs IsListedBefore reports.problems.items) }
         ensures left { self.new ≡ self.old }
     {
-        self.session.known_report()
+        let problems = self.session.known_report()?;
+        let tables = table_problems(alloc, &mut self.session, tables)?;
+        Ok(Reports { problems, tables })
     }
 
-    /// The problems of the file as it stands that are new since this report, of those that a level
+    /// The problems of the file as it stands that are new since these reports, of those that a level
     /// lists. Where it lists none the file isn't looked at.
-    #[tactic(auto, using(crate::proofs::NewErrorLemmas::none_quiet))]
+    #[tactic(auto, using(crate::proofs::ReportsLemmas::quiet_steps))]
     pub(crate) fn errors_since(
         &mut self,
         alloc: Global,
         level: Level,
-        before: &[Problem],
+        tables: bool,
+        before: &Reports,
     ) -> Result<NewErrors, AllocError>
-        requires ordered { AllPairs IsListedBefore before.now }
+        requires ordered { AllPairs IsListedBefore before.now.problems.items }
         requires look { (level ≡ Quiet → ⊥) → self.old.look ≡ LookAll }
         ensures text { (told : List ℕ) → IsToldBy H.whole told self.old.log → IfOk result (λ found. found.text.items
-            ≡ new_error_lines (new_errors level before.now (report_of (standing_at told self.old).marked.file))) }
+            ≡ new_lines level (read_reports before.now) (reports_of tables (standing_at told self.old).marked.file)) }
         ensures errors { (told : List ℕ) → IsToldBy H.whole told self.old.log → IfOk result (λ found. found.errors
-            ≡ errors_in (new_errors level before.now (report_of (standing_at told self.old).marked.file))) }
+            ≡ new_error_count level (read_reports before.now) (reports_of tables (standing_at told self.old).marked.file)) }
         ensures warnings { (told : List ℕ) → IsToldBy H.whole told self.old.log → IfOk result (λ found. found.warnings
-            ≡ warnings_in (new_errors level before.now (report_of (standing_at told self.old).marked.file))) }
+            ≡ new_warning_count level (read_reports before.now) (reports_of tables (standing_at told self.old).marked.file)) }
         ensures err { OnErr result (level ≡ Quiet → ⊥) }
         ensures left { self.new ≡ self.old }
     {
         if let Level::Quiet = level {
             return Ok(NewErrors::none(alloc));
         }
-        let after = self.report()?;
-        errors_since(alloc, level, before, &after)
+        let after = self.reports(alloc, tables)?;
+        let found = errors_since(alloc, level, &before.problems, &after.problems)?;
+        add_tables(alloc, level, found, &before.tables, &after.tables)
     }
 
     /// Saves the file on these terms, and flushes it.
@@ -266,8 +328,8 @@ impl<H: Holder + Drop> Runner<H> {
         ensures counted { IfErr result (FaultCounts self.old.log.failures self.new.log.failures) }
         ensures once { H.whole ≡ true → IfErr result IsOnce }
         ensures like { OnOk result (PrintsAs
-            (HasTotalBy self.old.look (saved_bytes terms (standing_over self.old (marked_of self.old.session))))
-            (length (saved_bytes terms (standing_over self.old (marked_of self.old.session)))) (P.state saved.old) (P.state saved.new)) }
+            (HasTotalBy self.old.look (saved_bytes terms (standing_over self.old (guarded_by self.old self.old.session))))
+            (length (saved_bytes terms (standing_over self.old (guarded_by self.old self.old.session)))) (P.state saved.old) (P.state saved.new)) }
         ensures leaves { IfErr result (SavingLeaves (P.state saved.old) (P.state saved.new)) }
         ensures flushed { OnOk result ((P.state saved.new).unflushed ≡ 0) }
         ensures standing { (told : List ℕ) → standing_at told self.new ≡ standing_at told self.old }
@@ -290,8 +352,8 @@ impl<H: Holder + Drop> Runner<H> {
         ensures counted { IfErr result (FaultCounts self.old.log.failures self.new.log.failures) }
         ensures once { H.whole ≡ true → IfErr result IsOnce }
         ensures like { OnOk result (PrintsAs
-            (HasTotalBy self.old.look (saved_bytes terms (standing_over self.old (marked_of self.old.session))))
-            (length (saved_bytes terms (standing_over self.old (marked_of self.old.session)))) (P.state saved.old) (P.state saved.new)) }
+            (HasTotalBy self.old.look (saved_bytes terms (standing_over self.old (guarded_by self.old self.old.session))))
+            (length (saved_bytes terms (standing_over self.old (guarded_by self.old self.old.session)))) (P.state saved.old) (P.state saved.new)) }
         ensures leaves { IfErr result (SavingLeaves (P.state saved.old) (P.state saved.new)) }
         ensures standing { (told : List ℕ) → standing_at told self.new ≡ standing_at told self.old }
         ensures look { self.new.look ≡ self.old.look }
@@ -316,7 +378,8 @@ impl<H: Holder + Drop> Runner<H> {
 fn keep_first<H: Holder + Drop>(session: &mut Session<H>, terms: Terms)
     requires unmarked { marked_of session.old ≡ unmarked (file_of session.old) }
     requires seen { terms.sums ≡ true → All IsSeen session.old.hdus }
-    ensures marked { marked_of session.new ≡ marked_first terms (file_of session.old) }
+    ensures marked { guarded terms.tables (marked_of session.new)
+        ≡ marked_first terms (file_of session.old) }
     ensures absences { absences_of session.new.hdus ≡ absences_of session.old.hdus }
     ensures stays { LieStill session.old.hdus session.new.hdus }
 {

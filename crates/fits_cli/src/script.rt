@@ -1,5 +1,5 @@
 //! A script, answered line by line as it comes.
-ghost use Rattle.std.specs.Prelude.{◌≡◌, ◌<◌, ◌≤◌, ◌+◌, ◌^◌, ◌++◌, ℕ, List, true, [], length, take, IfErr, IfOk, OnErr, OnOk};
+ghost use Rattle.std.specs.Prelude.{◌≡◌, ◌<◌, ◌≤◌, ◌+◌, ◌^◌, ◌++◌, ◌==◌, ◌||◌, ℕ, List, true, nat_lt, [], ◌∷◌, IfNone, IfSome, length, take, Err, IfErr, IfOk, Ok, OnErr, OnOk};
 ghost use Rattle.std.specs.Prelude.{vec_capacity, vec_len};
 ghost use Rattle.std.specs.Option.{option_map};
 ghost use Rattle.std.specs.Io.{ReadsAtMost};
@@ -7,16 +7,20 @@ ghost use Rattle.fits_stream.specs.Stream.{FailsToRead, IsDry, Prints, Reads};
 ghost use Rattle.fits_script.specs.Line.{reading_of};
 ghost use Rattle.fits_cli.specs.Faults.{FaultCounts, IsOnce, ScriptCounts};
 ghost use Rattle.fits_tell.specs.Faults.{PrintFails};
-ghost use Rattle.fits_cli.specs.Frame.{LinesLeave, PrintsSome, ScriptAnswers, ScriptLeaves};
+ghost use Rattle.fits_cli.specs.Frame.{IsUnanswered, LinesLeave, PrintsSome, ScriptAnswers, ScriptLeaves};
 ghost use Rattle.fits_cli.specs.Reply.{reply_text};
 ghost use Rattle.fits_unit.specs.Again.{Follows};
-ghost use Rattle.fits_cli.specs.Running.{heard, kept_of, standing_at, AnswersLine, AnswersScript, Continues, IsToldBy};
-ghost use Rattle.fits_cli.specs.Running.{EndsScript, EndStops, LineStops, PieceStops, ScriptStops};
+ghost use Rattle.fits_cli.specs.Answer.{answer_of, done_last, left_of, plain_answer, plain_left, AtOne, PlainNeedsMemory, PlainWantsData};
+ghost use Rattle.fits_extended.specs.Stands.{lines_in};
+ghost use Rattle.fits_cli.specs.Remark.{plain_remark, remark_by, remark_line, remark_of};
+ghost use Rattle.fits_cli.specs.Running.{heard, kept_of, standing_at, AnswersAs, AnswersLine, AnswersPlain, AnswersScript, Continues, IsToldBy, LacksOne};
+ghost use Rattle.fits_cli.specs.Running.{EndsScript, EndStops, LineStops, PieceStops, PlainStops, ScriptStops, StopsAs};
 
 use crate::limits::SCRIPT_LIMIT;
 use crate::remarking::say;
 use crate::reply::{Reply, counts_as_refused, print_reply};
 use crate::runner::Runner;
+use fits_extended::{Stands, Unmet};
 use fits_script::{LINE_LIMIT, split_far};
 use fits_session::Holder;
 use fits_stream::{PIECE_LEN, Sink, Source, buffer_of};
@@ -27,7 +31,7 @@ use std::io;
 /// How many bytes of a line are kept until it ends. More aren't needed: it is too long.
 const LINE_ROOM: usize = LINE_LIMIT + 1;
 
-// Answers one line.
+// Answers one line, whatever it stands for.
 fn answer_line<H: Holder + Drop, O: Sink, E: Sink>(
     alloc: Global,
     runner: &mut Runner<H>,
@@ -36,10 +40,10 @@ fn answer_line<H: Holder + Drop, O: Sink, E: Sink>(
     told: &mut Option<E>,
 ) -> Result<(), Fault>
     requires { runner.old.line + 1 < 2 ^ 64 }
-    ensures ok { (told : List ℕ) → IsToldBy H.whole told runner.new.log → OnOk result (AnswersLine line.now (standing_at told runner.old) (standing_at told runner.new)
+    ensures ok { (bytes : List ℕ) → IsToldBy H.whole bytes runner.new.log → OnOk result (AnswersLine line.now (standing_at bytes runner.old) (standing_at bytes runner.new)
         (heard (O.state out.old) (option_map E.state told.old))
         (heard (O.state out.new) (option_map E.state told.new))) }
-    ensures err { (told : List ℕ) → IsToldBy H.whole told runner.new.log → IfErr result (LineStops line.now (standing_at told runner.old)
+    ensures err { (bytes : List ℕ) → IsToldBy H.whole bytes runner.new.log → IfErr result (LineStops line.now (standing_at bytes runner.old)
         (heard (O.state out.old) (option_map E.state told.old))
         (heard (O.state out.new) (option_map E.state told.new))) }
     ensures quiet { OnOk result (runner.new.log.failures ≡ runner.old.log.failures) }
@@ -51,12 +55,169 @@ fn answer_line<H: Holder + Drop, O: Sink, E: Sink>(
     ensures look { runner.new.look ≡ runner.old.look }
     ensures line { OnOk result (runner.new.line ≡ runner.old.line + 1) }
 {
+    match runner.stands_for(alloc, line)? {
+        Stands::Itself => answer_plain(alloc, runner, line, out, told),
+        Stands::Line(plain) => answer_plain(alloc, runner, &plain, out, told),
+        Stands::Lines(plains) => answer_plains(alloc, runner, &plains, out, told),
+        Stands::Unmet(why) => answer_unmet(runner, why, line, out, told),
+    }
+}
+
+// Answers a line that stands for no plain line.
+fn answer_unmet<H: Holder + Drop, O: Sink, E: Sink>(
+    runner: &mut Runner<H>,
+    why: Unmet,
+    line: &[u8],
+    out: &mut O,
+    told: &mut Option<E>,
+) -> Result<(), Fault>
+    requires { runner.old.line + 1 < 2 ^ 64 }
+    ensures ok { (bytes : List ℕ) → OnOk result (AnswersAs (answer_of (standing_at bytes runner.old) (Err why))
+        (remark_of (standing_at bytes runner.old) (Err why)) (left_of (standing_at bytes runner.old) (Err why)) (standing_at bytes runner.new)
+        (heard (O.state out.old) (option_map E.state told.old))
+        (heard (O.state out.new) (option_map E.state told.new))) }
+    ensures err { (bytes : List ℕ) → IfErr result (StopsAs (answer_of (standing_at bytes runner.old) (Err why)) ⊥ ⊥
+        (heard (O.state out.old) (option_map E.state told.old))
+        (heard (O.state out.new) (option_map E.state told.new))) }
+    ensures said { OnOk result (PrintsSome (O.state out.old) (O.state out.new)) }
+    ensures leaves { IfErr result (LinesLeave (O.state out.old) (O.state out.new)) }
+    ensures once { IfErr result IsOnce }
+    ensures counted { IfErr result (FaultCounts runner.old.log.failures runner.new.log.failures) }
+    ensures log { runner.new.log ≡ runner.old.log }
+{
+    let number = runner.line();
+    let reply = runner.refuse(why);
+    print_answer(out, number, &reply, told.is_some())?;
+    say(told, number, line, &reply);
+    Ok(())
+}
+
+// Answers one plain line.
+fn answer_plain<H: Holder + Drop, O: Sink, E: Sink>(
+    alloc: Global,
+    runner: &mut Runner<H>,
+    line: &[u8],
+    out: &mut O,
+    told: &mut Option<E>,
+) -> Result<(), Fault>
+    requires { runner.old.line + 1 < 2 ^ 64 }
+    ensures ok { (bytes : List ℕ) → IsToldBy H.whole bytes runner.new.log → OnOk result (AnswersPlain line.now (standing_at bytes runner.old) (standing_at bytes runner.new)
+        (heard (O.state out.old) (option_map E.state told.old))
+        (heard (O.state out.new) (option_map E.state told.new))) }
+    ensures err { (bytes : List ℕ) → IsToldBy H.whole bytes runner.new.log → IfErr result (PlainStops line.now (standing_at bytes runner.old)
+        (heard (O.state out.old) (option_map E.state told.old))
+        (heard (O.state out.new) (option_map E.state told.new))) }
+    ensures quiet { OnOk result (runner.new.log.failures ≡ runner.old.log.failures) }
+    ensures counted { IfErr result (FaultCounts runner.old.log.failures runner.new.log.failures) }
+    ensures said { OnOk result (PrintsSome (O.state out.old) (O.state out.new)) }
+    ensures leaves { IfErr result (LinesLeave (O.state out.old) (O.state out.new)) }
+    ensures once { H.whole ≡ true → IfErr result IsOnce }
+    ensures follows { Follows runner.old.log runner.new.log }
+    ensures line { OnOk result (runner.new.line ≡ runner.old.line + 1) }
+{
     let number = runner.line();
     let wanted = told.is_some();
     let reply = runner.reply(alloc, wanted, line)?;
     print_answer(out, number, &reply, wanted && counts_as_refused(&reply))?;
     say(told, number, line, &reply);
     Ok(())
+}
+
+// Answers plain lines that one line stands for.
+fn answer_plains<H: Holder + Drop, O: Sink, E: Sink>(
+    alloc: Global,
+    runner: &mut Runner<H>,
+    plains: &[Vec<u8>],
+    out: &mut O,
+    told: &mut Option<E>,
+) -> Result<(), Fault>
+    requires { runner.old.line + 1 < 2 ^ 64 }
+    ensures ok { (bytes : List ℕ) → IsToldBy H.whole bytes runner.new.log → OnOk result (AnswersAs
+        (answer_of (standing_at bytes runner.old) (Ok (lines_in plains.now)))
+        (remark_of (standing_at bytes runner.old) (Ok (lines_in plains.now)))
+        (left_of (standing_at bytes runner.old) (Ok (lines_in plains.now))) (standing_at bytes runner.new)
+        (heard (O.state out.old) (option_map E.state told.old))
+        (heard (O.state out.new) (option_map E.state told.new))) }
+    ensures err { (bytes : List ℕ) → IsToldBy H.whole bytes runner.new.log → IfErr result (StopsAs
+        (answer_of (standing_at bytes runner.old) (Ok (lines_in plains.now)))
+        (AtOne PlainNeedsMemory (standing_at bytes runner.old) (lines_in plains.now))
+        (AtOne PlainWantsData (standing_at bytes runner.old) (lines_in plains.now))
+        (heard (O.state out.old) (option_map E.state told.old))
+        (heard (O.state out.new) (option_map E.state told.new))) }
+    ensures quiet { OnOk result (runner.new.log.failures ≡ runner.old.log.failures) }
+    ensures counted { IfErr result (FaultCounts runner.old.log.failures runner.new.log.failures) }
+    ensures said { OnOk result (PrintsSome (O.state out.old) (O.state out.new)) }
+    ensures leaves { IfErr result (LinesLeave (O.state out.old) (O.state out.new)) }
+    ensures once { H.whole ≡ true → IfErr result IsOnce }
+    ensures follows { Follows runner.old.log runner.new.log }
+    ensures line { OnOk result (runner.new.line ≡ runner.old.line + 1) }
+{
+    let number = runner.line();
+    let wanted = told.is_some();
+    let (reply, line) = reply_to_last(alloc, runner, wanted, plains)?;
+    print_answer(out, number, &reply, wanted && counts_as_refused(&reply))?;
+    say(told, number, line, &reply);
+    Ok(())
+}
+
+// Does what plain lines say that one line stands for, each in its turn and as far as the first that
+// is refused, and goes on to the next line. The reply is that to the last of them that is done,
+// which stands beside it.
+fn reply_to_last<'a, H: Holder + Drop>(
+    alloc: Global,
+    runner: &mut Runner<H>,
+    wanted: bool,
+    plains: &'a [Vec<u8>],
+) -> Result<(Reply<'a>, &'a [u8]), Fault>
+    requires { runner.old.line + 1 < 2 ^ 64 }
+    ensures text { (bytes : List ℕ) → IsToldBy H.whole bytes runner.new.log → IfOk result (λ it. reply_text runner.old.line it.0
+        ≡ plain_answer (done_last (standing_at bytes runner.old) (lines_in plains.now))) }
+    ensures remark { (bytes : List ℕ) → IsToldBy H.whole bytes runner.new.log → IfOk result (λ it. wanted ≡ true
+        → remark_line runner.old.line (remark_by it.1.now it.0)
+        ≡ plain_remark (done_last (standing_at bytes runner.old) (lines_in plains.now))) }
+    ensures left { (bytes : List ℕ) → IsToldBy H.whole bytes runner.new.log → OnOk result
+        ((standing_at bytes runner.new) ≡ plain_left (done_last (standing_at bytes runner.old) (lines_in plains.now))) }
+    ensures err { (bytes : List ℕ) → IsToldBy H.whole bytes runner.new.log → IfErr result (λ fault.
+        AtOne (LacksOne fault) (standing_at bytes runner.old) (lines_in plains.now)) }
+    ensures quiet { OnOk result (runner.new.log.failures ≡ runner.old.log.failures) }
+    ensures counted { IfErr result (FaultCounts runner.old.log.failures runner.new.log.failures) }
+    ensures unanswered { IfErr result IsUnanswered }
+    ensures once { H.whole ≡ true → IfErr result IsOnce }
+    ensures line { OnOk result (runner.new.line ≡ runner.old.line + 1) }
+    ensures follows { Follows runner.old.log runner.new.log }
+{
+    let number = runner.line();
+    let mut rest = plains;
+    'plains: while let Some((plain, others)) = first_of(rest) {
+        let refused = runner.refused();
+        let reply = runner.reply(alloc, wanted, plain)?;
+        if is_last_done(others, refused, runner.refused()) {
+            return Ok((reply, plain));
+        }
+        runner.stay(number);
+        rest = others;
+    }
+    Ok((runner.reply(alloc, wanted, b"")?, b""))
+}
+
+// The first of plain lines, and the others.
+fn first_of(plains: &[Vec<u8>]) -> Option<(&[u8], &[Vec<u8>])>
+    ensures some { IfSome result (λ cut. lines_in plains.now ≡ cut.0.now ∷ lines_in cut.1.now) }
+    ensures shorter { IfSome result (λ cut. length cut.1.now < length plains.now) }
+    ensures none { IfNone result (lines_in plains.now ≡ []) }
+{
+    match plains {
+        [plain, others @ ..] => Some((plain.as_slice(), others)),
+        [] => None,
+    }
+}
+
+// Whether plain lines aren't gone on with, of which these are left, after one that made so many
+// refused ones of so many.
+fn is_last_done(others: &[Vec<u8>], before: u64, after: u64) -> bool
+    ensures { result ≡ ((length others.now == 0) || nat_lt before after) }
+{
+    others.is_empty() || before < after
 }
 
 // Prints what a line comes to, and passes it on at once where a remark on it follows, so that who
@@ -106,11 +267,11 @@ fn answer_piece<H: Holder + Drop, O: Sink, E: Sink>(
     requires numbers { runner.old.line + length piece.now + 1 < 2 ^ 64 }
     requires room { LINE_LIMIT + 1 ≤ vec_capacity line.old }
     requires within { vec_len line.old ≤ LINE_LIMIT + 1 }
-    ensures ok { (told : List ℕ) → IsToldBy H.whole told runner.new.log → OnOk result (Continues piece.now line.old.items line.new.items (standing_at told runner.old)
-        (standing_at told runner.new)
+    ensures ok { (bytes : List ℕ) → IsToldBy H.whole bytes runner.new.log → OnOk result (Continues piece.now line.old.items line.new.items (standing_at bytes runner.old)
+        (standing_at bytes runner.new)
         (heard (O.state out.old) (option_map E.state told.old))
         (heard (O.state out.new) (option_map E.state told.new))) }
-    ensures err { (told : List ℕ) → IsToldBy H.whole told runner.new.log → IfErr result (PieceStops piece.now line.old.items (standing_at told runner.old)
+    ensures err { (bytes : List ℕ) → IsToldBy H.whole bytes runner.new.log → IfErr result (PieceStops piece.now line.old.items (standing_at bytes runner.old)
         (heard (O.state out.old) (option_map E.state told.old))
         (heard (O.state out.new) (option_map E.state told.new))) }
     ensures quiet { OnOk result (runner.new.log.failures ≡ runner.old.log.failures) }
@@ -149,11 +310,11 @@ fn answer_at_once<H: Holder + Drop, O: Sink, E: Sink>(
     requires numbers { runner.old.line + length piece.now + 1 < 2 ^ 64 }
     requires room { LINE_LIMIT + 1 ≤ vec_capacity line.old }
     requires within { vec_len line.old ≤ LINE_LIMIT + 1 }
-    ensures ok { (told : List ℕ) → IsToldBy H.whole told runner.new.log → OnOk result (Continues piece.now line.old.items line.new.items (standing_at told runner.old)
-        (standing_at told runner.new)
+    ensures ok { (bytes : List ℕ) → IsToldBy H.whole bytes runner.new.log → OnOk result (Continues piece.now line.old.items line.new.items (standing_at bytes runner.old)
+        (standing_at bytes runner.new)
         (heard (O.state out.old) (option_map E.state told.old))
         (heard (O.state out.new) (option_map E.state told.new))) }
-    ensures err { (told : List ℕ) → IsToldBy H.whole told runner.new.log → IfErr result (PieceStops piece.now line.old.items (standing_at told runner.old)
+    ensures err { (bytes : List ℕ) → IsToldBy H.whole bytes runner.new.log → IfErr result (PieceStops piece.now line.old.items (standing_at bytes runner.old)
         (heard (O.state out.old) (option_map E.state told.old))
         (heard (O.state out.new) (option_map E.state told.new))) }
     ensures quiet { OnOk result (runner.new.log.failures ≡ runner.old.log.failures) }
@@ -181,10 +342,10 @@ fn answer_last_line<H: Holder + Drop, O: Sink, E: Sink>(
     told: &mut Option<E>,
 ) -> Result<(), Fault>
     requires { runner.old.line + 1 < 2 ^ 64 }
-    ensures ok { (told : List ℕ) → IsToldBy H.whole told runner.new.log → OnOk result (EndsScript line.now (standing_at told runner.old) (standing_at told runner.new)
+    ensures ok { (bytes : List ℕ) → IsToldBy H.whole bytes runner.new.log → OnOk result (EndsScript line.now (standing_at bytes runner.old) (standing_at bytes runner.new)
         (heard (O.state out.old) (option_map E.state told.old))
         (heard (O.state out.new) (option_map E.state told.new))) }
-    ensures err { (told : List ℕ) → IsToldBy H.whole told runner.new.log → IfErr result (EndStops line.now (standing_at told runner.old)
+    ensures err { (bytes : List ℕ) → IsToldBy H.whole bytes runner.new.log → IfErr result (EndStops line.now (standing_at bytes runner.old)
         (heard (O.state out.old) (option_map E.state told.old))
         (heard (O.state out.new) (option_map E.state told.new))) }
     ensures quiet { OnOk result (runner.new.log.failures ≡ runner.old.log.failures) }
@@ -211,11 +372,11 @@ pub(crate) fn answer_script<H: Holder + Drop, S: Source, O: Sink, E: Sink>(
     told: &mut Option<E>,
 ) -> Result<(), Fault>
     requires { runner.old.line ≡ 1 }
-    ensures ok { (told : List ℕ) → IsToldBy H.whole told runner.new.log → OnOk result (AnswersScript (S.state script.old) (S.state script.new) (standing_at told runner.old)
-        (standing_at told runner.new)
+    ensures ok { (bytes : List ℕ) → IsToldBy H.whole bytes runner.new.log → OnOk result (AnswersScript (S.state script.old) (S.state script.new) (standing_at bytes runner.old)
+        (standing_at bytes runner.new)
         (heard (O.state out.old) (option_map E.state told.old))
         (heard (O.state out.new) (option_map E.state told.new))) }
-    ensures err { (told : List ℕ) → IsToldBy H.whole told runner.new.log → IfErr result (ScriptStops (S.state script.old) (S.state script.new) (standing_at told runner.old)
+    ensures err { (bytes : List ℕ) → IsToldBy H.whole bytes runner.new.log → IfErr result (ScriptStops (S.state script.old) (S.state script.new) (standing_at bytes runner.old)
         (heard (O.state out.old) (option_map E.state told.old))
         (heard (O.state out.new) (option_map E.state told.new))) }
     ensures quiet { OnOk result (runner.new.log.failures ≡ runner.old.log.failures) }
@@ -276,11 +437,11 @@ fn answer_pieces<H: Holder + Drop, S: Source, O: Sink, E: Sink>(
     requires wide { 0 < length piece.old }
     requires empty { line.old.items ≡ [] }
     requires room { LINE_LIMIT + 1 ≤ vec_capacity line.old }
-    ensures ok { (told : List ℕ) → IsToldBy H.whole told runner.new.log → OnOk result (AnswersScript (S.state script.old) (S.state script.new) (standing_at told runner.old)
-        (standing_at told runner.new)
+    ensures ok { (bytes : List ℕ) → IsToldBy H.whole bytes runner.new.log → OnOk result (AnswersScript (S.state script.old) (S.state script.new) (standing_at bytes runner.old)
+        (standing_at bytes runner.new)
         (heard (O.state out.old) (option_map E.state told.old))
         (heard (O.state out.new) (option_map E.state told.new))) }
-    ensures err { (told : List ℕ) → IsToldBy H.whole told runner.new.log → IfErr result (ScriptStops (S.state script.old) (S.state script.new) (standing_at told runner.old)
+    ensures err { (bytes : List ℕ) → IsToldBy H.whole bytes runner.new.log → IfErr result (ScriptStops (S.state script.old) (S.state script.new) (standing_at bytes runner.old)
         (heard (O.state out.old) (option_map E.state told.old))
         (heard (O.state out.new) (option_map E.state told.new))) }
     ensures quiet { OnOk result (runner.new.log.failures ≡ runner.old.log.failures) }

@@ -1,3 +1,7 @@
+ghost use Rattle.std.specs.Prelude.{◌≡◌};
+ghost use Rattle.fits_cli.specs.Terms.{asking};
+
+use crate::manner::Manner;
 use crate::saves::Saves;
 use fits_passing::Look;
 use fits_tell::Level;
@@ -7,6 +11,10 @@ use fits_tell::Level;
 pub struct Terms {
     /// HDUs whose sums are right as the file is opened are kept right.
     pub sums: bool,
+    /// Extended lines are taken, each for the plain lines that it stands for.
+    pub extended: bool,
+    /// The columns of tables are kept: an edit that would leave others is refused.
+    pub tables: bool,
     /// Nothing is saved where no edit was accepted.
     pub spare: bool,
     pub saves: Saves,
@@ -31,6 +39,8 @@ impl Terms {
 /// The terms of a run that has none of these, and saves what its script made.
 pub(crate) const PLAIN: Terms = Terms {
     sums: false,
+    extended: false,
+    tables: false,
     spare: false,
     saves: Saves::Made {
         whole: false,
@@ -39,8 +49,14 @@ pub(crate) const PLAIN: Terms = Terms {
 };
 
 /// The terms of a run that saves nothing.
-pub(crate) const ASKING: Terms = Terms {
-    sums: false,
-    spare: false,
-    saves: Saves::Nothing,
-};
+pub(crate) fn asking(manner: Manner) -> Terms
+    ensures { result ≡ asking manner }
+{
+    Terms {
+        sums: false,
+        extended: manner.extended,
+        tables: manner.tables,
+        spare: false,
+        saves: Saves::Nothing,
+    }
+}

@@ -2,9 +2,8 @@
 ghost use Rattle.std.specs.Prelude.{◌≡◌, ◌++◌, IfOk, OnOk};
 ghost use Rattle.std.specs.Option.{option_copied};
 ghost use Rattle.fits_cli.specs.ValueLine.{comment_text, value_line, value_text};
-ghost use Rattle.fits_value.specs.Spelling.{doubled};
 
-use fits_script::split_far;
+use fits_extended::push_doubled;
 use fits_tell::push_both;
 use fits_value::{Text, Value};
 use std::alloc::{AllocError, Global};
@@ -48,23 +47,6 @@ fn push_value(line: &mut Vec<u8>, value: &Value) -> Result<(), AllocError>
             line.extend_from_slice(b"'")
         }
     }
-}
-
-// Adds characters, with each quote doubled.
-#[tactic(auto, using(crate::proofs::ValueLineLemmas::doubled_steps))]
-fn push_doubled(line: &mut Vec<u8>, text: &[u8]) -> Result<(), AllocError>
-    ensures { OnOk result (line.new.items ≡ line.old.items ++ doubled text.now) }
-{
-    let mut rest = text;
-    'quotes: while let Some((front, more)) = split_far(rest, b'\'') {
-        push_both(line, front, b"''")?;
-        rest = more;
-        'row: while let [b'\'', after @ ..] = rest {
-            line.extend_from_slice(b"''")?;
-            rest = after;
-        }
-    }
-    line.extend_from_slice(rest)
 }
 
 // Adds a comment, where there is one.

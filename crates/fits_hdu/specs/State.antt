@@ -1,5 +1,6 @@
 -- What an HDU under edits is to its callers.
-use Rattle.std.specs.Prelude.{◌≡◌, ℕ, Bool, List, Ok, Option, None, Some}
+use Rattle.std.specs.Prelude.{◌≡◌, ℕ, nat_lt, Bool, List, Ok, Option, None, Some, if◌then◌else◌}
+use Rattle.fits_card.specs.Header.{card_at}
 use Rattle.fits_rules.specs.Class.{is_primary}
 use Rattle.fits_rules.specs.Shape.{shape_of}
 use Rattle.fits_header.specs.State.{HeaderState}
@@ -36,6 +37,10 @@ IsSeen hdu = IsKnown hdu.absent
 -- its cards describe the shape that is kept of them
 abbrev pub IsDescribed : HduState → Type 0
 IsDescribed hdu = shape_of (is_primary hdu.header.shape.class) hdu.header.header.cards ≡ Ok hdu.header.shape
+
+-- the card at a place, counted from 1, if there is one
+abbrev pub card_placed : List (List ℕ) → ℕ → Option (List ℕ)
+card_placed cards place = if nat_lt 0 place then card_at cards place else None
 
 -- what it is called
 abbrev pub name_of : HduState → Option ExtensionName

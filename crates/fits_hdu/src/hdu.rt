@@ -1,5 +1,6 @@
 ghost use Rattle.std.specs.Prelude.{◌≡◌, ◌≤◌, ◌+◌, length};
 
+mod columns;
 mod loading;
 mod making;
 mod pixels;
@@ -10,7 +11,7 @@ mod stamping;
 use crate::keyword::{KeywordFault, keyword_cards, keyword_value};
 use crate::keyword_cards::KeywordCards;
 use crate::planes::{follow_blank, plane_of};
-use fits_card::{CardList, Change, Name, has_header};
+use fits_card::{Card, CardList, Change, Name, has_header};
 use fits_codes::HeaderMark;
 use fits_header::Header;
 use fits_image::{Kind, image_kind};
@@ -93,7 +94,7 @@ impl Hdu {
     ghost use Rattle.fits_image.specs.Kind.{kind_in};
     ghost use Rattle.fits_passing.specs.Layout.{layout_of};
     ghost use Rattle.fits_passing.specs.HduReading.{HduStops};
-    ghost use Rattle.fits_hdu.specs.State.{name_of, parts_of, IsDescribed, ReadsUpTo};
+    ghost use Rattle.fits_hdu.specs.State.{card_placed, name_of, parts_of, IsDescribed, ReadsUpTo};
     ghost use Rattle.fits_passing.specs.Work.{apply_reads, name_reads};
     ghost use Rattle.fits_hdu.specs.Work.{keyword_reads, layout_in, plane_work, FollowsBlank, IsOpened, IsScanned};
     ghost use Rattle.fits_passing.specs.Hdu.{IsHdu, IsHduOf, HduFails, hdu_bytes, hdu_after, keeps_shape};
@@ -249,6 +250,19 @@ impl Hdu {
         ensures few { result < 2 ^ 63 }
     {
         self.header.len()
+    }
+
+    /// The card at a place, if there is one. The read is counted.
+    ///
+    /// It takes no memory.
+    pub fn card(&mut self, place: usize) -> Option<Card>
+        ensures value { result ≡ card_placed self.old.header.header.cards place }
+        ensures work { ReadsUpTo self.old self.new 1 }
+    {
+        if place == 0 || place > self.header.len() {
+            return None;
+        }
+        Some(self.header.card(place))
     }
 
     /// Its header.

@@ -27,6 +27,7 @@ pub mod ProblemLemmas
 pub mod ReadBackLemmas
 pub mod RepeatedLemmas
 pub mod RightLemmas
+pub mod PlainLemmas
 pub mod RunLemmas
 pub mod SaidLemmas
 pub mod SetLemmas

@@ -24,7 +24,8 @@ use Rattle.fits_passing.specs.Sums.{verdicts_of}
 use Rattle.fits_hdu.specs.NewImage.{new_image}
 use Rattle.fits_hdu.proofs.VerdictLemmas.{stamped_right}
 use Rattle.fits_making.specs.Keeping.{both_right, kept_after, stamp_follows, stamped_if}
-use Rattle.fits_session.specs.Marked.{Marked, is_kept, marked_after, marked_refusal}
+use Rattle.fits_session.specs.Marked.{Marked, edit_keeps, is_kept, marked_after, marked_refusal}
+use Rattle.fits_session.proofs.GuardLemmas.{else_none}
 use Rattle.fits_laws.specs.Edits.{AreRight}
 use Rattle.fits_passing.specs.declared.limits.TheConstants.{FILE_LIMIT, HDU_LIMIT}
 use Rattle.fits_edit.specs.declared.edit.Edit.{Edit}
@@ -153,7 +154,7 @@ right_of it right (suc i) hdu there on = right i hdu there on
 -- an accepted edit leaves both sums right in the HDUs that are kept
 pub stay_right : (it : Marked) (edit : Edit) → HasSizes edit → IsFile it.file → AreRight it → marked_refusal it edit ≡ None → AreRight (marked_after it edit)
 unfolding marked_refusal marked_after refusal_of file_after
-stay_right it (Hdu h edit) sizes p right e = right_of (marked_after it (Hdu h edit)) (hdu_right it h edit (hdu_of it.file h) sizes p (right_in it right) refl e)
+stay_right it (Hdu h edit) sizes p right e = right_of (marked_after it (Hdu h edit)) (hdu_right it h edit (hdu_of it.file h) sizes p (right_in it right) refl (else_none it.tables (edit_keeps it.file (Hdu h edit)) _ e))
 stay_right it (NewImage at kind axes) sizes p right e =
     right_of (marked_after it (NewImage at kind axes)) (right_inserted (at - 1) it.file.hdus it.kept (new_image kind axes) (new_within it.file at kind axes e) (right_in it right))
 stay_right it (RemoveHdu h) sizes p right e = right_of (marked_after it (RemoveHdu h)) (right_left (h - 1) it.file.hdus it.kept (right_in it right))

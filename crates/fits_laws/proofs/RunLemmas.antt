@@ -1,10 +1,12 @@
 -- What lines leave is what their edits do that are done.
-use Rattle.std.proofs.Common.{◌≡◌, ℕ, List, [], ◌∷◌, ◌++◌, Bool, true, map, refl, ap, sym, subst, ◌∙◌, Option, None, Some}
+use Rattle.std.proofs.Common.{◌≡◌, ℕ, List, [], ◌∷◌, ◌++◌, Bool, true, map, refl, ap, sym, subst, ◌∙◌, Option, None, Some, inl, inr}
 use Rattle.std.specs.Prelude.{Result, Ok, Err, if◌then◌else◌}
+use Rattle.std.proofs.lemmas.Bool.{cases_Bool}
+use Rattle.std.proofs.lemmas.List.{append-nil}
 use Rattle.fits_passing.specs.declared.verdicts.Verdicts.{Verdicts}
 use Rattle.fits_edit.specs.declared.edit.Edit.{Edit as SessionEdit}
 use Rattle.fits_session.specs.Edit.{HasSizes}
-use Rattle.fits_session.specs.Marked.{Marked, kept_in, marked_after, marked_refusal}
+use Rattle.fits_session.specs.Marked.{guarded, Marked, kept_in, marked_after, marked_refusal}
 use Rattle.fits_session.specs.Query.{datasum_in, positions_in, rect_in, stats_in, value_in, verdicts_in}
 use Rattle.fits_making.specs.declared.refusal.Refusal.{Refusal}
 use Rattle.fits_script.specs.Line.{reading_of}
@@ -12,7 +14,8 @@ use Rattle.fits_script.specs.declared.command.Command.{Command}
 use Rattle.fits_script.specs.declared.command.Command.TheVariants.{Nothing, Edit, Offsets, Get, Positions, Report, Statistics, Rectangle, Sums, Kept}
 use Rattle.fits_script.specs.declared.line_reading.LineReading.{LineReading}
 use Rattle.fits_script.specs.declared.line_reading.LineReading.TheVariants.{TooLong, NoCommand, Said}
-use Rattle.fits_cli.specs.Answer.{Standing, after_outcome, asked, kept_line, line_left, outcome_of, some_places, sums_asked, unless}
+use Rattle.fits_extended.specs.declared.unmet.Unmet.{Unmet}
+use Rattle.fits_cli.specs.Answer.{Standing, after_outcome, asked, done_last, is_last_done, kept_line, left_after, left_of, line_left, line_stands, outcome_of, plain_left, still_at, some_places, sums_asked, unless}
 use Rattle.fits_cli.specs.Output.{standing_after}
 use Rattle.fits_cli.proofs.ResultLemmas.{said_line}
 use Rattle.fits_cli.proofs.SizeLemmas.{IsSized}
@@ -21,7 +24,7 @@ use Rattle.fits_making.specs.Keeping.{are_right, vouch}
 use Rattle.fits_session.specs.Marked.{unmarked, vouched}
 use Rattle.fits_cli.specs.Answer.{at_first_line}
 use Rattle.fits_cli.specs.declared.terms.Terms.{Terms}
-use Rattle.fits_laws.specs.Runs.{IsEdited, LeavesSums, edit_unless, edits_of, edits_said}
+use Rattle.fits_laws.specs.Runs.{IsEdited, LeavesSums, edit_unless, edits_done, edits_of, edits_said, edits_stood}
 use Rattle.fits_laws.specs.Sums.{AreAccepted, AreKeptSo, AreKnown, known_after_each, marked_after_each, marks_after_each, right_marks, unvouched_cards}
 use Rattle.fits_laws.proofs.SumLemmas.{is_vouched, other_sums_stay, right_sums_stay}
 
@@ -82,15 +85,40 @@ one_left standing line TooLong is = none_left _ _ refl
 one_left standing line (NoCommand misfit) is = none_left _ _ refl
 one_left standing line (Said command) is = command_left standing command (said_line line command is)
 
+-- some edits, and then others
+both_left : (it then left : Marked) (first others : List SessionEdit) → Leaves it then first → Leaves then left others → Leaves it left (first ++ others)
+both_left it then left first others p q = record {
+  is = q.is ∙ ap (λ (m : Marked). marked_after_each m others) p.is ∙ sym (after_both it first others);
+  accepted = accepted_both it first others p.accepted (subst (λ (m : Marked). AreAccepted m others) p.is q.accepted);
+}
+
+-- plain lines that one line stands for
+plains_left : (standing : Standing) (plains : List (List ℕ)) → Leaves standing.marked (plain_left (done_last standing plains)).marked (edits_done standing plains)
+unfolding done_last
+plains_left standing [] = one_left standing [] (reading_of []) refl
+plains_left standing (plain ∷ others) =
+    let next : Standing = still_at standing (reading_of plain) in
+    let said = edits_said standing.marked (reading_of plain) in
+    let first = one_left standing plain (reading_of plain) refl in
+    elim (cases_Bool (is_last_done standing plain others)) [
+      | inl last ↦ rw (last, append-nil said) first
+      | inr more ↦ rw more (both_left standing.marked next.marked (plain_left (done_last next others)).marked said (edits_done next others) first (plains_left next others))
+    ]
+
+-- whatever a line stands for
+stood_left : (standing : Standing) (stands : Result (List (List ℕ)) Unmet) → Leaves standing.marked (left_of standing stands).marked (edits_stood standing stands)
+stood_left standing (Ok plains) = plains_left standing plains
+stood_left standing (Err why) = none_left _ _ refl
+
 -- all lines
 pub lines_edited : (standing : Standing) (lines : List (List ℕ)) → IsEdited standing lines
-unfolding standing_after
+unfolding standing_after left_after
 lines_edited standing [] = record { left = refl; accepted = tt }
 lines_edited standing (line ∷ lines) =
-    let next : Standing = line_left standing (reading_of line) in
-    let first = one_left standing line (reading_of line) refl in
+    let next : Standing = left_after standing line in
+    let first = stood_left standing (line_stands standing line) in
     let others = lines_edited next lines in
-    let said = edits_said standing.marked (reading_of line) in
+    let said = edits_stood standing (line_stands standing line) in
     record {
       left = others.left ∙ ap (λ it. marked_after_each it (edits_of next lines)) first.is ∙ sym (after_both standing.marked said (edits_of next lines));
       accepted = accepted_both standing.marked said (edits_of next lines) first.accepted (subst (λ it. AreAccepted it (edits_of next lines)) first.is others.accepted);
@@ -103,8 +131,8 @@ kept_each it [] = refl
 kept_each it (edit ∷ edits) = kept_each (marked_after it edit) edits
 
 -- where right sums are kept right, the HDUs are kept whose sums vouch for them
-first_vouched : (terms : Terms) (file : FileParts) → terms.sums ≡ true → (at_first_line terms file).marked ≡ vouched file
-first_vouched terms file on = ap (λ (b : Bool). let it : Marked = record { file = file; kept = if b then (vouched file).kept else (unmarked file).kept } in it) on
+first_vouched : (terms : Terms) (file : FileParts) → terms.sums ≡ true → (at_first_line terms file).marked ≡ guarded terms.tables (vouched file)
+first_vouched terms file on = ap (λ (b : Bool). let it : Marked = record { file = file; kept = if b then (vouched file).kept else (unmarked file).kept; tables = terms.tables } in it) on
 
 -- so lines leave right sums right, and others as they were
 pub leaves_sums_right : (terms : Terms) (file : FileParts) (lines : List (List ℕ)) → terms.sums ≡ true → IsFile file → LeavesSums terms file lines
@@ -112,13 +140,14 @@ leaves_sums_right terms file lines on whole =
     let first : Standing = at_first_line terms file in
     let edits : List SessionEdit = edits_of first lines in
     let done = lines_edited first lines in
+    let it : Marked = guarded terms.tables (vouched file) in
     let begins = first_vouched terms file on in
     let start = is_vouched file in
-    let accepted : AreAccepted (vouched file) edits = subst (λ (it : Marked). AreAccepted it edits) begins done.accepted in
-    let left : (standing_after first lines).marked ≡ marked_after_each (vouched file) edits = done.left ∙ ap (λ (it : Marked). marked_after_each it edits) begins in
-    let sound : AreKeptSo vouch (marked_after_each (vouched file) edits) (marks_after_each (vouched file).kept edits) = right_sums_stay vouch (vouched file) (vouched file).kept edits refl whole accepted start.sound in
+    let accepted : AreAccepted it edits = subst (λ (it : Marked). AreAccepted it edits) begins done.accepted in
+    let left : (standing_after first lines).marked ≡ marked_after_each it edits = done.left ∙ ap (λ (it : Marked). marked_after_each it edits) begins in
+    let sound : AreKeptSo vouch (marked_after_each it edits) (marks_after_each it.kept edits) = right_sums_stay vouch it it.kept edits refl whole accepted (record { sums = start.sound.sums; kept = start.sound.kept }) in
     record {
-      sound = subst (λ (it : Marked). AreKeptSo vouch it it.kept) (sym left) (subst (AreKeptSo vouch (marked_after_each (vouched file) edits)) (sym (kept_each (vouched file) edits)) sound);
-      right = subst (λ (it : Marked). AreKeptSo are_right it (marks_after_each (right_marks file) edits)) (sym left) (right_sums_stay are_right (vouched file) (right_marks file) edits refl whole accepted start.right);
-      others = subst (λ (it : Marked). AreKnown it (known_after_each (vouched file) (map unvouched_cards file.hdus) edits)) (sym left) (other_sums_stay (vouched file) (map unvouched_cards file.hdus) edits start.others);
+      sound = subst (λ (it : Marked). AreKeptSo vouch it it.kept) (sym left) (subst (AreKeptSo vouch (marked_after_each it edits)) (sym (kept_each it edits)) sound);
+      right = subst (λ (it : Marked). AreKeptSo are_right it (marks_after_each (right_marks file) edits)) (sym left) (right_sums_stay are_right it (right_marks file) edits refl whole accepted (record { sums = start.right.sums; kept = start.right.kept }));
+      others = subst (λ (left : Marked). AreKnown left (known_after_each it (map unvouched_cards file.hdus) edits)) (sym left) (other_sums_stay it (map unvouched_cards file.hdus) edits (record { cards = start.others.cards; free = start.others.free }));
     }

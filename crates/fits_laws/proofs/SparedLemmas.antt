@@ -1,6 +1,7 @@
 -- Where no edit is accepted a file stays.
-use Rattle.std.proofs.Common.{◌≡◌, ℕ, false, List, [], ◌∷◌, refl, ◌∙◌, Option, None, Some}
+use Rattle.std.proofs.Common.{◌≡◌, ℕ, false, List, [], ◌∷◌, refl, ◌∙◌, Option, None, Some, inl, inr}
 use Rattle.std.specs.Prelude.{Result, Ok, Err}
+use Rattle.std.proofs.lemmas.Bool.{cases_Bool}
 use Rattle.fits_passing.specs.declared.verdicts.Verdicts.{Verdicts}
 use Rattle.fits_session.specs.Marked.{kept_in, marked_after, marked_refusal}
 use Rattle.fits_session.specs.Query.{datasum_in, positions_in, rect_in, stats_in, value_in, verdicts_in}
@@ -11,7 +12,8 @@ use Rattle.fits_script.specs.declared.command.Command.{Command}
 use Rattle.fits_script.specs.declared.command.Command.TheVariants.{Nothing, Edit, Offsets, Get, Positions, Report, Statistics, Rectangle, Sums, Kept}
 use Rattle.fits_script.specs.declared.line_reading.LineReading.{LineReading}
 use Rattle.fits_script.specs.declared.line_reading.LineReading.TheVariants.{TooLong, NoCommand, Said}
-use Rattle.fits_cli.specs.Answer.{Standing, after_outcome, asked, is_edit, kept_line, line_left, outcome_of, some_places, sums_asked, unless}
+use Rattle.fits_extended.specs.declared.unmet.Unmet.{Unmet}
+use Rattle.fits_cli.specs.Answer.{Standing, after_outcome, asked, done_last, is_edit, is_last_done, kept_line, left_after, left_of, line_left, line_stands, outcome_of, plain_left, still_at, some_places, sums_asked, unless}
 use Rattle.fits_cli.specs.Output.{standing_after}
 
 -- unless an edit was accepted by then, none was before, and the file and its marks are as they were
@@ -55,11 +57,28 @@ line_stays standing TooLong e = (e, refl)
 line_stays standing (NoCommand misfit) e = (e, refl)
 line_stays standing (Said command) e = command_stays standing command e
 
+-- plain lines that one line stands for
+plains_stay : (standing : Standing) (plains : List (List ℕ)) → Stays standing (plain_left (done_last standing plains))
+unfolding done_last
+plains_stay standing [] e = line_stays standing (reading_of []) e
+plains_stay standing (plain ∷ others) = elim (cases_Bool (is_last_done standing plain others)) [
+  | inl last ↦ rw last (line_stays standing (reading_of plain))
+  | inr more ↦ rw more (λ e.
+      let later = plains_stay (still_at standing (reading_of plain)) others e in
+      let first = line_stays standing (reading_of plain) later.0 in
+      (first.0, later.1 ∙ first.1))
+]
+
+-- and whatever a line stands for
+stood_stays : (standing : Standing) (stands : Result (List (List ℕ)) Unmet) → Stays standing (left_of standing stands)
+stood_stays standing (Ok plains) e = plains_stay standing plains e
+stood_stays standing (Err why) e = (e, refl)
+
 -- all lines leave them, where none of them is an edit that was accepted
 pub lines_stay : (standing : Standing) (lines : List (List ℕ)) → Stays standing (standing_after standing lines)
-unfolding standing_after
+unfolding standing_after left_after
 lines_stay standing [] e = (e, refl)
 lines_stay standing (line ∷ lines) e =
-    let others = lines_stay (line_left standing (reading_of line)) lines e in
-    let first = line_stays standing (reading_of line) others.0 in
+    let others = lines_stay (left_after standing line) lines e in
+    let first = stood_stays standing (line_stands standing line) others.0 in
     (first.0, others.1 ∙ first.1)

@@ -16,7 +16,8 @@ use Rattle.fits_session.specs.Edit.{changed_at, file_after, hdu_edited, hdu_of, 
 use Rattle.fits_passing.specs.File.{is_primary_hdu, FileParts, file_bytes, IsFile}
 use Rattle.fits_making.specs.HduEdit.{hdu_made, HasHduSizes}
 use Rattle.fits_making.specs.Keeping.{are_right, both_right, is_right, is_wrong, kept_after, stamp_follows, stamped_if, vouch}
-use Rattle.fits_session.specs.Marked.{Marked, is_kept, marked_after, marked_refusal, marks_after}
+use Rattle.fits_session.specs.Marked.{Marked, edit_keeps, is_kept, marked_after, marked_refusal, marks_after}
+use Rattle.fits_session.proofs.GuardLemmas.{else_none}
 use Rattle.fits_session.specs.Query.{in_hdu}
 use Rattle.fits_session.specs.Refusal.{refusal_in}
 use Rattle.fits_session.proofs.ChangeLemmas.{changed_at-both, hdu_is}
@@ -67,9 +68,9 @@ module _ (holds : Verdicts → Bool) (good : holds both_right ≡ true) (it : Ma
   -- any edit
   keeps_one : (edit : Edit) → HasSizes edit → IsFile it.file → marked_refusal it edit ≡ None → AreKeptSo holds (marked_after it edit) (marks_after marks edit)
   unfolding marked_refusal marked_after file_after
-  keeps_one (Hdu zero edit) sizes whole e = absurd (cc)
+  keeps_one (Hdu zero edit) sizes whole e = absurd (let z = else_none it.tables (edit_keeps it.file (Hdu zero edit)) _ e in cc)
   keeps_one (Hdu (suc i) edit) sizes whole e = record {
-    sums = hdu_keeps i edit (slice_get it.file.hdus i) sizes whole refl e;
+    sums = hdu_keeps i edit (slice_get it.file.hdus i) sizes whole refl (else_none it.tables (edit_keeps it.file (Hdu (suc i) edit)) _ e);
     kept = beside_changed Implies i (kept_after edit) (kept_after edit) marks it.kept (λ mark other a b q. implies_after edit mark other q) p.kept;
   }
   keeps_one (NewImage at kind axes) sizes whole e = record {

@@ -1,7 +1,7 @@
 //! Laws of the definitions, each the contract of a function that does nothing.
 ghost use Rattle.std.specs.Prelude.{◌≡◌, ◌↔◌, ◌+◌, ◌<◌, ℕ, true, AllPairs, Bool, false, List, Some, length, take, Ok};
 ghost use Rattle.fits_laws.specs.Forms.{Says};
-ghost use Rattle.fits_laws.specs.Runs.{IsEdited, LeavesSums};
+ghost use Rattle.fits_laws.specs.Runs.{AllStand, ArePlain, IsEdited, LeavesSums};
 ghost use Rattle.fits_script.specs.declared.command.Command.{Command};
 ghost use Rattle.fits_script.specs.declared.limits.TheConstants.{LINE_LIMIT};
 ghost use Rattle.fits_script.specs.Line.{command_of, reading_of};
@@ -69,6 +69,13 @@ pub fn new_errors_are_errors()
 /// accepted in its turn.
 pub fn a_script_is_its_edits()
     ensures { (standing : Standing) (lines : List (List ℕ)) → IsEdited standing lines }
+{}
+
+/// Where each line stands for a plain one, a script with extended lines is that of these plain lines,
+/// each in its place: it prints and leaves the same.
+pub fn an_extended_script_is_a_plain_one()
+    ensures { (standing : Standing) (lines : List (List ℕ)) → AllStand standing lines
+        → ArePlain standing lines }
 {}
 
 /// Where right sums are kept right, lines leave those of each HDU that was opened with right ones so,

@@ -1,5 +1,6 @@
 pub mod CardEditLemmas
 pub mod CardLemmas
+pub mod ColumnLemmas
 pub mod FirmLemmas
 pub mod HadLemmas
 pub mod KeepingLemmas

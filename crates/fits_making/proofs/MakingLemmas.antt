@@ -238,7 +238,7 @@ needs_memory stamps primary bytes hdus hdu (Ok change) p = needs_kept stamps (ke
 needs_memory stamps primary bytes hdus hdu (Err why) p = cc
 
 -- memory that an edit may need without a refusal it may need on the way to one
-needs_as : (edit : CardEdit) (refused : Option Refusal) → CardEditNeedsMemory edit None → CardsNeedMemory refused → CardEditNeedsMemory edit refused
+pub needs_as : (edit : CardEdit) (refused : Option Refusal) → CardEditNeedsMemory edit None → CardsNeedMemory refused → CardEditNeedsMemory edit refused
 needs_as (Insert place card) refused takes needs = needs
 needs_as (Put place card) refused takes needs = needs
 needs_as (Delete place) refused takes needs = takes

@@ -1,4 +1,5 @@
 pub mod CardEdit
+pub mod Columns
 pub mod HduEdit
 pub mod Keeping
 pub mod Making

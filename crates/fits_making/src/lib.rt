@@ -3,6 +3,7 @@
 
 mod cards;
 mod changes;
+mod columns;
 mod keeping;
 mod making;
 mod pixels;
@@ -11,5 +12,6 @@ mod reshaping;
 mod stamping;
 
 pub use changes::is_within;
+pub use columns::cards_keep;
 pub use making::edit_hdu;
 pub use refusal::Refusal;

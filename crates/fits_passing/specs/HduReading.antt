@@ -1,5 +1,5 @@
 -- How an HDU is read from a source, whatever is kept of it (own).
-use Rattle.std.specs.Prelude.{◌≡◌, ◌≤◌, ℕ, ◌+◌, Bool, List, length, Ok, Option, None, Some}
+use Rattle.std.specs.Prelude.{◌≡◌, ℕ, Bool, List, length, Ok, Option, None, Some}
 use Rattle.fits_card.specs.Header.{Header, AreFrontCards, header_bytes}
 use Rattle.fits_stream.specs.Gave.{FindsAll}
 use Rattle.fits_stream.specs.Intake.{Supply, Takes}
@@ -10,7 +10,6 @@ use Rattle.fits_stream.specs.declared.reading.ReadFault.{ReadFault}
 use Rattle.fits_stream.specs.declared.reading.ReadFault.TheVariants as read
 use Rattle.fits_rules.specs.Class.{is_primary}
 use Rattle.fits_rules.specs.Shape.{shape_of}
-use Rattle.fits_rules.specs.Size.{data_length}
 use Rattle.fits_rules.specs.declared.array_shape.Shape.{Shape}
 use Rattle.fits_rules.specs.declared.mandatory.ShapeFault.{ShapeFault}
 use Rattle.fits_rules.specs.declared.mandatory.ShapeFault.TheVariants as shape

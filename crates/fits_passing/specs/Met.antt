@@ -1,5 +1,5 @@
 -- HDUs of a stored file as they are met: their headers are read, their data units pass by or stay unread (own).
-use Rattle.std.specs.Prelude.{◌≡◌, ◌≤◌, ℕ, ◌+◌, nat_lt, Bool, true, false, List, [], ◌∷◌, ◌++◌, length, take, drop, All, Option, Some, Ok}
+use Rattle.std.specs.Prelude.{◌≡◌, ◌<◌, ◌≤◌, ℕ, ◌+◌, nat_lt, Bool, true, false, List, [], ◌∷◌, ◌++◌, length, take, drop, All, Option, Some, Ok}
 use Rattle.fits_card.specs.Header.{header_bytes, IsHeader}
 use Rattle.fits_stream.specs.Agree.{IsOf}
 use Rattle.fits_stream.specs.Intake.{IntakeState, Supply, Takes}

@@ -145,17 +145,23 @@ fn next_hdu<'f, F: Stored>(
 {
     let next = PassedHdu::read(alloc, look, intake, source, primary)?;
     let end = place + (next.header.byte_len() + next.unit.byte_len()) as u64;
-    let passed = match &next.unit {
-        AwayUnit::Passed(_) => Ok(()),
-        AwayUnit::Unread(_) => pass_over(alloc, file, intake, source, end),
-    };
-    match passed {
+    if has_passed(&next.unit) {
+        return Ok(next);
+    }
+    match pass_over(alloc, file, intake, source, end) {
         Ok(()) => Ok(next),
         Err(fault) => {
             drop(next);
             Err(fault)
         }
     }
+}
+
+// Whether a data unit passed by.
+fn has_passed(unit: &AwayUnit) -> bool
+    ensures { result ≡ is_passed unit.now }
+{
+    matches!(unit, AwayUnit::Passed(_))
 }
 
 // Passes over what lies before a place, of which the last byte alone is read.

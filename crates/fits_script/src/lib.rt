@@ -29,4 +29,4 @@ pub use misfit::Misfit;
 pub use misfits::ends_in_return;
 pub use verb::Verb;
 pub use wording::{write_misfit, write_unwritable};
-pub use words::padded_name;
+pub use words::{cut_word, name_of_word, number_of_word, padded_name};

@@ -19,7 +19,7 @@ const NAME_LEN: usize = 8;
 
 /// The first word, and what follows the space after it, if there is one.
 #[tactic(auto, using(crate::proofs::WordLemmas::word_steps))]
-pub(crate) fn cut_word(text: &[u8]) -> (&[u8], Option<&[u8]>)
+pub fn cut_word(text: &[u8]) -> (&[u8], Option<&[u8]>)
     ensures word { result.0.now ≡ first_word text.now }
     ensures rest { option_copied result.1 ≡ after_word text.now }
 {
@@ -45,7 +45,7 @@ pub(crate) fn is_word(word: &[u8], this: &[u8]) -> bool
 
 /// The number of 1 to 18 digits.
 #[tactic(auto, unfolding(crate::specs::Words::number_of_word))]
-pub(crate) fn number_of_word(word: &[u8]) -> Option<usize>
+pub fn number_of_word(word: &[u8]) -> Option<usize>
     ensures { result ≡ number_of_word word.now }
 {
     if word.is_empty() || word.len() > DIGITS {
@@ -73,7 +73,7 @@ fn read_digits(digits: &[u8]) -> Option<usize>
 
 /// The keyword name of 1 to 8 bytes.
 #[tactic(auto, unfolding(crate::specs::Words::name_of_word))]
-pub(crate) fn name_of_word(word: &[u8]) -> Option<Name>
+pub fn name_of_word(word: &[u8]) -> Option<Name>
     ensures { result ≡ name_of_word word.now }
 {
     if word.is_empty() || word.len() > NAME_LEN {

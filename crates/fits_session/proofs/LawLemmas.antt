@@ -23,7 +23,7 @@ use Rattle.fits_making.specs.HduEdit.{made_or, hdu_changed, hdu_made, pixels_mad
 use Rattle.fits_edit.specs.Paint.{plane_paint}
 use Rattle.fits_making.specs.Keeping.{padded_if, stamp_follows, stamped_if}
 use Rattle.fits_passing.specs.Limits.{is_within_limits}
-use Rattle.fits_session.specs.Marked.{Marked, is_kept, marked_after, marked_refusal}
+use Rattle.fits_session.specs.Marked.{Marked, edit_keeps, is_kept, marked_after, marked_refusal}
 use Rattle.fits_passing.specs.declared.limits.TheConstants.{FILE_LIMIT}
 use Rattle.fits_session.specs.Refusal.{made_refusal, new_image_refusal, refusal_in, refusal_of, removal_refusal}
 use Rattle.fits_edit.specs.declared.edit.Edit.{Edit}
@@ -36,6 +36,7 @@ use Rattle.fits_making.proofs.CardEditLemmas.{made_inner}
 use Rattle.fits_session.proofs.ChangeLemmas.{changed_at-both, hdu_is}
 use Rattle.fits_session.proofs.EditLemmas.{length_changed, other_kept}
 use Rattle.fits_making.proofs.KeepingLemmas.{finished_short, finished_whole}
+use Rattle.fits_session.proofs.GuardLemmas.{else_none}
 use Rattle.fits_session.proofs.ListEditLemmas.{inserted_is_a_file, new_passes, removed_is_a_file}
 use Rattle.fits_making.proofs.MakingLemmas.{kept_whole, limit_none, within_limits}
 use Rattle.fits_making.proofs.ReshapeEditLemmas.{reshape_whole}
@@ -118,6 +119,6 @@ removal_accepted f file h (Some hdu) p there e = removed_is_a_file f file h hdu 
 -- an accepted edit leaves a file
 pub edited : (it : Marked) (edit : Edit) → HasSizes edit → IsFile it.file → marked_refusal it edit ≡ None → IsFile (marked_after it edit).file
 unfolding marked_refusal marked_after refusal_of file_after
-edited it (Hdu h edit) sizes p e = hdu_accepted (stamp_follows edit (is_kept it.kept h)) (file_bytes it.file) it.file h edit (hdu_of it.file h) sizes p refl e
+edited it (Hdu h edit) sizes p e = hdu_accepted (stamp_follows edit (is_kept it.kept h)) (file_bytes it.file) it.file h edit (hdu_of it.file h) sizes p refl (else_none it.tables (edit_keeps it.file (Hdu h edit)) _ e)
 edited it (NewImage at kind axes) sizes p e = image_accepted (file_bytes it.file) it.file at kind axes p e
 edited it (RemoveHdu h) sizes p e = removal_accepted (file_bytes it.file) it.file h (hdu_of it.file h) p refl e

@@ -3,6 +3,7 @@ pub mod ChangeLemmas
 pub mod CountLemmas
 pub mod EditLemmas
 pub mod FilledLemmas
+pub mod GuardLemmas
 pub mod HadLemmas
 pub mod KeptLemmas
 pub mod LawLemmas

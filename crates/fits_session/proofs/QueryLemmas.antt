@@ -27,7 +27,8 @@ use Rattle.fits_hdu.specs.declared.keyword.KeywordFault.TheVariants as keyword
 use Rattle.fits_session.specs.Edit.{hdu_of}
 use Rattle.fits_making.specs.HduEdit.{pixels_made, refusal_of_pixels, shaped}
 use Rattle.fits_passing.specs.File.{IsFile, is_primary_hdu}
-use Rattle.fits_session.specs.Query.{array_in, by_shape, card_count_in, datasum_in, kind_in, rect_in, shape_in, some_shape, stats_in, verdicts_in, value_in, positions_in, names_in, in_hdu, or_refused, PlacesFail, QueryFails}
+use Rattle.fits_session.specs.Query.{array_in, by_shape, card_count_in, card_in, datasum_in, kind_in, rect_in, shape_in, some_shape, stats_in, verdicts_in, value_in, positions_in, names_in, in_hdu, or_refused, PlacesFail, QueryFails}
+use Rattle.fits_hdu.specs.State.{card_placed}
 use Rattle.fits_making.specs.Refusal.{refusal_of_keyword}
 use Rattle.fits_making.specs.Keeping.{are_right, both_right, is_right}
 use Rattle.fits_session.specs.Marked.{is_kept, kept_in}
@@ -35,11 +36,15 @@ use Rattle.fits_session.specs.Session.{file_of, kept_of, marked_of, read_more, s
 use Rattle.fits_session.specs.Work.{reads_in, value_reads}
 use Rattle.fits_making.specs.declared.refusal.Refusal.{Refusal}
 use Rattle.fits_making.specs.declared.refusal.Refusal.TheVariants as refusal
-use Rattle.fits_session.proofs.StateLemmas.{IsHduAt, hdu_of-there, described_there, asked, kept_there, marked_of-same, reads_of-same, works_changed}
+use Rattle.fits_session.proofs.StateLemmas.{absences_of-same, IsHduAt, hdu_of-there, described_there, asked, kept_there, marked_of-same, reads_of-same, works_changed}
 
 -- how many cards HDU h has
 pub count_there : (hdus : List HduState) (tail : List ℕ) (h i n : ℕ) (hdu : HduState) → IsHduAt hdus h i hdu → n ≡ length hdu.header.header.cards → Path (Result ℕ Refusal) (Ok n) (card_count_in (file_of (state_of hdus tail)) h)
 count_there hdus tail h i n hdu at count = ap Ok count ∙ sym (ap (in_hdu (λ (u : HduParts). Ok (length u.header.cards))) (hdu_of-there hdus tail h i hdu at))
+
+-- its card at a place
+pub card_there : (hdus : List HduState) (tail : List ℕ) (h i place : ℕ) (hdu : HduState) → IsHduAt hdus h i hdu → card_in (file_of (state_of hdus tail)) h place ≡ ok_or (card_placed hdu.header.header.cards place) refusal.NoCard
+card_there hdus tail h i place hdu at = ap (in_hdu (λ (u : HduParts). ok_or (card_placed u.header.cards place) refusal.NoCard)) (hdu_of-there hdus tail h i hdu at)
 
 -- its shape
 pub shape_there : (hdus : List HduState) (tail : List ℕ) (h i : ℕ) (hdu : HduState) (shape : Shape) → IsFile (file_of (state_of hdus tail)) → IsHduAt hdus h i hdu → shape_of (is_primary hdu.header.shape.class) hdu.header.header.cards ≡ Ok hdu.header.shape → shape ≡ hdu.header.shape
@@ -72,7 +77,7 @@ value_fails hdus tail h i hdu name keyword.BadValue at p = value_err hdus tail h
 value_fails hdus tail h i hdu name keyword.Memory at p = rw (value_there hdus tail h i hdu name at) (says_something (keyword_value hdu.header.header.cards name) p)
 
 -- what a query that HDU h answers says
-answer_there : {X : Type 0} (answer : HduParts → Result X Refusal) (hdus : List HduState) (tail : List ℕ) (h i : ℕ) (hdu : HduState) → IsHduAt hdus h i hdu → in_hdu answer (hdu_of (file_of (state_of hdus tail)) h) ≡ answer (parts_of hdu)
+pub answer_there : {X : Type 0} (answer : HduParts → Result X Refusal) (hdus : List HduState) (tail : List ℕ) (h i : ℕ) (hdu : HduState) → IsHduAt hdus h i hdu → in_hdu answer (hdu_of (file_of (state_of hdus tail)) h) ≡ answer (parts_of hdu)
 answer_there answer hdus tail h i hdu at = ap (in_hdu answer) (hdu_of-there hdus tail h i hdu at)
 
 -- what it answers by the shape that its cards describe
@@ -196,6 +201,7 @@ rect_asks hdus tail h i count old new at is = record {
   file = marked_of-same hdus tail h i old new at (ap parts_of is) (ap (λ (one : HduState). one.kept) is);
   work = reads_of-same hdus i old new at.index.within at.is (ap (λ (state : HduState). state.header.reads) is);
   pixel_work = works_changed hdus h i old new (read_more count) at (ap (λ (state : HduState). plane_work state.plane) is);
+  absences = absences_of-same hdus i old new at.index.within at.is (ap (λ (state : HduState). state.absent) is);
 }
 
 -- the places of a name

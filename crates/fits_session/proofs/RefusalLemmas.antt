@@ -29,7 +29,8 @@ use Rattle.fits_passing.specs.File.{is_primary_hdu, FileParts, file_bytes}
 use Rattle.fits_making.specs.HduEdit.{hdu_changed, hdu_made, hdu_reshaped, pixels_made, shaped}
 use Rattle.fits_making.specs.Keeping.{padded_if, stamp_follows}
 use Rattle.fits_passing.specs.Limits.{is_within_limits}
-use Rattle.fits_session.specs.Marked.{Marked, is_kept, marked_refusal}
+use Rattle.fits_session.specs.Marked.{Marked, edit_keeps, is_kept, marked_refusal}
+use Rattle.fits_session.proofs.GuardLemmas.{else_memory}
 use Rattle.fits_session.specs.Refusal.{made_refusal, new_image_refusal, refusal_in, refusal_of, removal_refusal, size_refusal}
 use Rattle.fits_edit.specs.Paint.{plane_paint}
 use Rattle.fits_edit.specs.declared.card_edit.CardEdit.{CardEdit}
@@ -185,6 +186,6 @@ firm_new file h kind axes =
 -- no edit of any file is refused for memory, whatever HDUs are kept stamped
 pub never_memory : (it : Marked) (edit : Edit) → marked_refusal it edit ≡ Some Memory → ⊥
 unfolding IsFirm marked_refusal refusal_of
-never_memory it (Hdu h edit) = firm_edit (stamp_follows edit (is_kept it.kept h)) it.file h edit (hdu_of it.file h)
+never_memory it (Hdu h edit) = λ e. firm_edit (stamp_follows edit (is_kept it.kept h)) it.file h edit (hdu_of it.file h) (else_memory it.tables (edit_keeps it.file (Hdu h edit)) _ e)
 never_memory it (NewImage at kind axes) = firm_new it.file at kind axes
 never_memory it (RemoveHdu h) = firm_removal h (hdu_of it.file h)

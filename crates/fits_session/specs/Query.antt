@@ -8,6 +8,7 @@ use Rattle.fits_rules.specs.Shape.{shape_of}
 use Rattle.fits_rules.specs.declared.array_shape.Shape.{Shape}
 use Rattle.fits_passing.specs.Hdu.{HduParts}
 use Rattle.fits_hdu.specs.Keyword.{keyword_value}
+use Rattle.fits_hdu.specs.State.{card_placed}
 use Rattle.fits_image.specs.Kind.{kind_in as hdu_kind}
 use Rattle.fits_hdu.specs.Pixels.{rect_of}
 use Rattle.fits_passing.specs.Stats.{stats_of, Stats}
@@ -19,9 +20,11 @@ use Rattle.fits_passing.specs.declared.verdicts.Verdicts.{Verdicts}
 use Rattle.fits_hdu.specs.declared.keyword.KeywordFault.{KeywordFault}
 use Rattle.fits_passing.specs.File.{FileParts, is_primary_hdu}
 use Rattle.fits_session.specs.Edit.{hdu_of}
+use Rattle.fits_table.specs.Judged.{table_codes}
+use Rattle.fits_table.specs.declared.table_code.TableCode.{TableCode}
 use Rattle.fits_making.specs.HduEdit.{shaped}
 use Rattle.fits_making.specs.declared.refusal.Refusal.{Refusal}
-use Rattle.fits_making.specs.declared.refusal.Refusal.TheVariants.{NoHdu, Shape as BadShape, Memory}
+use Rattle.fits_making.specs.declared.refusal.Refusal.TheVariants.{NoHdu, NoCard, Shape as BadShape, Memory}
 use Rattle.fits_making.specs.Refusal.{refusal_of_keyword}
 
 -- what an HDU answers, if it is there
@@ -32,6 +35,10 @@ in_hdu answer (Some hdu) = answer hdu
 -- how many cards HDU h has, END not counted
 abbrev pub card_count_in : FileParts → ℕ → Result ℕ Refusal
 card_count_in file h = in_hdu (λ hdu. Ok (length hdu.header.cards)) (hdu_of file h)
+
+-- the card at a place of HDU h
+abbrev pub card_in : FileParts → ℕ → ℕ → Result (List ℕ) Refusal
+card_in file h place = in_hdu (λ hdu. ok_or (card_placed hdu.header.cards place) NoCard) (hdu_of file h)
 
 -- a shape, which each HDU of a file has
 abbrev pub some_shape : Result Shape ℕ → Result Shape Refusal
@@ -82,6 +89,10 @@ value_in file h name = in_hdu (λ hdu. or_refused (keyword_value hdu.header.card
 -- the places of the cards of a name in HDU h, ascending
 abbrev pub positions_in : FileParts → ℕ → List ℕ → Result (List ℕ) Refusal
 positions_in file h name = in_hdu (λ hdu. Ok (keyword_places hdu.header.cards name)) (hdu_of file h)
+
+-- the codes of HDU h as a table
+abbrev pub table_codes_in : FileParts → ℕ → Result (List TableCode) Refusal
+table_codes_in file h = in_hdu (λ hdu. Ok (table_codes (is_primary_hdu h) hdu.header.cards)) (hdu_of file h)
 
 -- the names of the cards of HDU h, each once, ascending by bytes
 abbrev pub names_in : FileParts → ℕ → Result (List (List ℕ)) Refusal

@@ -1,5 +1,5 @@
 -- What a session is to its callers, and what its calls owe.
-use Rattle.std.specs.Prelude.{◌≡◌, ◌⊎◌, ℕ, Bool, ◌+◌, ◌-◌, ◌<◌, ◌≤◌, List, length, get_or, map, All, true, Result, IfErr, OnOk, OnErr, None, Some}
+use Rattle.std.specs.Prelude.{◌≡◌, ◌⊎◌, ℕ, Bool, false, Option, ◌+◌, ◌-◌, ◌<◌, ◌≤◌, List, length, get_or, map, All, true, Result, IfErr, OnOk, OnErr, None, Some}
 use Rattle.std.specs.List.{insert, remove, slice_get}
 use Rattle.fits_pixels.specs.Layout.{block_count}
 use Rattle.fits_passing.specs.Hdu.{HduParts}
@@ -13,6 +13,7 @@ use Rattle.fits_session.specs.Edit.{changed_of, hdu_of}
 use Rattle.fits_passing.specs.File.{is_primary_hdu, file_bytes, FileParts, IsFile}
 use Rattle.fits_making.specs.HduEdit.{needs_data}
 use Rattle.fits_making.specs.Keeping.{IsSound}
+use Rattle.fits_making.specs.Columns.{keeping_reads, LacksChange}
 use Rattle.fits_session.specs.Marked.{is_stamped_after, marked_after, marked_refusal, Marked}
 use Rattle.fits_session.specs.NameTable.{Stands}
 use Rattle.fits_session.specs.Refusal.{EditNeedsMemory}
@@ -21,7 +22,8 @@ use Rattle.fits_session.specs.Work.{edit_reads}
 use Rattle.fits_edit.specs.declared.edit.Edit.{Edit}
 use Rattle.fits_edit.specs.declared.edit.Edit.TheVariants.{Hdu, NewImage, RemoveHdu}
 use Rattle.fits_edit.specs.declared.hdu_edit.HduEdit.{HduEdit}
-use Rattle.fits_edit.specs.declared.hdu_edit.HduEdit.TheVariants.{Reshape}
+use Rattle.fits_edit.specs.declared.card_edit.CardEdit.{CardEdit}
+use Rattle.fits_edit.specs.declared.hdu_edit.HduEdit.TheVariants.{Cards, Reshape}
 use Rattle.fits_making.specs.declared.refusal.Refusal.{Refusal}
 use Rattle.fits_making.specs.Making.{Holding, IsHad, HduWork, unread, IsReadyTo}
 
@@ -84,9 +86,9 @@ file_of session = record { hdus = hdus_of session.hdus; tail = session.tail }
 abbrev pub kept_of : List HduState → List Bool
 kept_of hdus = map (λ (one : HduState). one.kept) hdus
 
--- the file, and which of its HDUs are
+-- the file, and which of its HDUs are; a session by itself keeps no tables
 abbrev pub marked_of : SessionState → Marked
-marked_of session = record { file = file_of session; kept = kept_of session.hdus }
+marked_of session = record { file = file_of session; kept = kept_of session.hdus; tables = false }
 
 -- HDUs under edits and a tail
 abbrev pub state_of : List HduState → List ℕ → SessionState
@@ -222,3 +224,31 @@ IsReadyFor edit hdus = Unit {0}
 -- none of so many HDUs is HDU h
 abbrev pub IsNowhere : ℕ → ℕ → Type 0
 IsNowhere count h = (h ≡ 0) ⊎ (count < h)
+
+-- memory ran out on the way to whether an edit keeps columns: for the change of cards of an HDU that is there
+abbrev pub LacksIn : CardEdit → Option HduParts → Type 0
+LacksIn edit None = ⊥
+LacksIn edit (Some hdu) = LacksChange hdu.header.cards edit
+
+abbrev pub LacksEdit : FileParts → Edit → Type 0
+LacksEdit file (Hdu h (Cards edit)) = LacksIn edit (hdu_of file h)
+LacksEdit file edit = ⊥
+
+-- so many cards are read for that
+abbrev pub columns_reads : CardEdit → Option HduParts → ℕ
+columns_reads edit None = 0
+columns_reads edit (Some hdu) = keeping_reads hdu.header.cards edit
+
+-- those of HDU h alone, of an edit of its cards
+abbrev pub LookReads : Edit → SessionState → SessionState → Type 0
+LookReads (Hdu h (Cards edit)) old new = ReadsOnly h (columns_reads edit (hdu_of (file_of old) h)) (reads_of old.hdus) (reads_of new.hdus)
+LookReads edit old new = new ≡ old
+
+-- what an edit would make of columns was looked at: the file and its marks stay, and no data unit was worked on and no room made
+pub record LooksAt (edit : Edit) (old new : SessionState) : Type 0 where
+  pub marks : marked_of new ≡ marked_of old
+  pub pixel_work : works_of new.hdus ≡ works_of old.hdus
+  pub rooms : rooms_of new.hdus ≡ rooms_of old.hdus
+  pub reads : LookReads edit old new
+  pub ready : IsReadyFor edit old.hdus → IsReadyFor edit new.hdus
+  pub absences : absences_of new.hdus ≡ absences_of old.hdus

@@ -1,5 +1,6 @@
 ghost use Rattle.std.specs.Prelude.{◌≡◌, ◌+◌, ℕ, List, None, Bool, true, false, length, IfErr, IsOk, OnErr, OnOk};
 ghost use Rattle.fits_unit.specs.Again.{copied_blocks, CopyCounts, CopyFails, CopyWrites, Follows, LoadCounts, Looks, PrintsAs};
+ghost use Rattle.fits_unit.specs.DataUnit.{IsCounted};
 ghost use Rattle.fits_session.specs.Away.{IsToldOn};
 ghost use Rattle.fits_stream.specs.Stream.{Prints};
 ghost use Rattle.fits_passing.specs.Hdu.{hdu_bytes};
@@ -22,6 +23,8 @@ pub trait Holder {
     fn know(&mut self, hdu: &mut Hdu, log: &mut ReadLog) -> Result<(), LoadFault>
         requires { IsHad (record { whole = whole; told = None }) hdu.old }
         ensures known { OnOk result (IsSeen hdu.new) }
+        ensures fresh { (IsSeen hdu.old → ⊥)
+            → OnOk result (IsCounted hdu.new.plane hdu.new.absent) }
         ensures had { IsHad (record { whole = whole; told = None }) hdu.new }
         ensures same { (told : List ℕ) → IsToldOn whole told log.new hdu.old
             → OnOk result (parts_of (hdu_at told hdu.new) ≡ parts_of (hdu_at told hdu.old)) }

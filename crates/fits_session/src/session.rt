@@ -2,6 +2,7 @@ ghost use Rattle.std.specs.Prelude.{◌≡◌};
 
 mod editing;
 mod finding;
+mod guarding;
 mod list_edits;
 mod loading;
 mod naming;

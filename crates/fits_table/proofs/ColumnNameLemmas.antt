@@ -3,7 +3,7 @@ use Rattle.std.proofs.Common.{◌≡◌, ℕ, ◌+◌, ◌-◌, suc, List, [], �
 use Rattle.std.specs.Fmt.{decimal}
 use Rattle.std.proofs.lemmas.List.{length-replicate}
 use Rattle.fits_rules.specs.Shape.{axis_name}
-use Rattle.std.specs.Prelude.{◌||◌, ◌&&◌, Option, None, if◌then◌else◌}
+use Rattle.std.specs.Prelude.{◌||◌, Option, None, if◌then◌else◌}
 use Rattle.std.specs.Str.{bytes_eq}
 use Rattle.fits_codes.specs.Keywords.{is_one_of}
 use Rattle.fits_table.specs.Leads.{column_name, column_number, column_roots, count_after, is_after}

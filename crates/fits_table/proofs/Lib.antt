@@ -1,3 +1,4 @@
+pub mod ChangedLemmas
 pub mod CodeLemmas
 pub mod ColumnNameLemmas
 pub mod ColumnsLemmas
@@ -8,6 +9,8 @@ pub mod ElementsLemmas
 pub mod FieldLemmas
 pub mod FieldsLemmas
 pub mod FormLemmas
+pub mod KeepingLemmas
+pub mod KeptLaws
 pub mod LetterLemmas
 pub mod MarkingLemmas
 pub mod MisfitLemmas

@@ -12,7 +12,7 @@ use Rattle.fits_table.specs.declared.table_kind.TableKind.{TableKind}
 use Rattle.fits_table.proofs.ColumnsLemmas.{any_more}
 
 -- one number more
-range_more : (a n : ℕ) → range_with_len a (suc n) ≡ range_with_len a n ++ (a + n) ∷ []
+pub range_more : (a n : ℕ) → range_with_len a (suc n) ≡ range_with_len a n ++ (a + n) ∷ []
 range_more a zero = let same : a ≡ a + 0 = omega arith in ap (λ (x : ℕ). x ∷ []) same
 range_more a (suc n) =
     let next : a + 1 + n ≡ a + suc n = omega arith in

@@ -1,5 +1,5 @@
 -- What a header says of a column, by the leads of its keywords (FITS Standard 4.0, sections 7.2 and 7.3).
-use Rattle.std.specs.Prelude.{ℕ, ◌&&◌, Bool, false, not, nat_le, ℤ, pos, negsuc, List, Option, None, Some, option_and_then, if◌then◌else◌}
+use Rattle.std.specs.Prelude.{ℕ, ◌&&◌, Bool, false, nat_le, ℤ, pos, negsuc, List, Option, None, Some, option_and_then, if◌then◌else◌}
 use Rattle.std.specs.Option.{option_map_or}
 use Rattle.fits_rules.specs.Reads.{integer_said, string_said}
 use Rattle.fits_table.specs.FormSteps.{form_of}

@@ -10,6 +10,7 @@ pub mod Form
 pub mod FormSteps
 pub mod Format
 pub mod Judged
+pub mod Kept
 pub mod Laws
 pub mod Leads
 pub mod Misfit
@@ -20,3 +21,4 @@ pub mod Table
 pub mod TableCode
 pub mod TableKind
 pub mod TableMark
+pub mod Work

@@ -24,8 +24,8 @@ pub struct Column {
     pub has_odd_name: bool,
 }
 
-// The form that a lead says.
-fn form_said(kind: TableKind, lead: &Option<Card>) -> Option<Form>
+/// The form that a lead says.
+pub(crate) fn form_said(kind: TableKind, lead: &Option<Card>) -> Option<Form>
     ensures { result ≡ form_said kind lead.now }
 {
     match lead {
@@ -37,8 +37,8 @@ fn form_said(kind: TableKind, lead: &Option<Card>) -> Option<Form>
     }
 }
 
-// The place in a row that a lead says.
-fn start_said(lead: &Option<Card>) -> Option<u64>
+/// The place in a row that a lead says.
+pub(crate) fn start_said(lead: &Option<Card>) -> Option<u64>
     ensures { result ≡ start_said lead.now }
 {
     match lead {

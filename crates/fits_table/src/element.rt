@@ -43,8 +43,8 @@ const ELEMENTS: [Element; 11] = [
     Element::DoubleComplex,
 ];
 
-// The letter of a type.
-fn letter_of(element: Element) -> u8
+/// The letter of a type.
+pub(crate) fn element_letter(element: Element) -> u8
     ensures { result ≡ element_letter element }
 {
     match element {
@@ -70,7 +70,7 @@ pub(crate) fn element_of(letter: u8) -> Option<Element>
     ELEMENTS
         .iter()
         .copied()
-        .find(|element| letter_of(*element) == letter)
+        .find(|element| element_letter(*element) == letter)
 }
 
 /// How many bytes of a row so many elements take.

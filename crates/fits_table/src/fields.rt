@@ -9,9 +9,9 @@ use fits_rules::{IntegerSaid, integer_said};
 /// The most columns that a table may have (FITS Standard 4.0, sections 7.2.1 and 7.3.1).
 const MOST_FIELDS: i64 = 999;
 
-// The columns that a card says, if it is named TFIELDS.
+/// The columns that a card says, if it is named TFIELDS.
 #[tactic(auto, using(crate::proofs::FieldsLemmas::fields_steps))]
-fn fields_in(card: &Card) -> Option<u64>
+pub(crate) fn fields_in(card: &Card) -> Option<u64>
     ensures value { result ≡ fields_in card.now }
     ensures within { IfSome result (λ fields. fields ≤ 999) }
 {

@@ -25,8 +25,8 @@ const FORMATS: [Format; 5] = [
     Format::DoubleExponential,
 ];
 
-// The letter of a format.
-fn letter_of(format: Format) -> u8
+/// The letter of a format.
+pub(crate) fn format_letter(format: Format) -> u8
     ensures { result ≡ format_letter format }
 {
     match format {
@@ -46,5 +46,5 @@ pub(crate) fn format_of(letter: u8) -> Option<Format>
     FORMATS
         .iter()
         .copied()
-        .find(|format| letter_of(*format) == letter)
+        .find(|format| format_letter(*format) == letter)
 }

@@ -1,5 +1,5 @@
 //! Laws of the definitions, each the contract of a function that does nothing.
-ghost use Rattle.fits_table.specs.Laws.{FormsAreReadExactly, FormsHaveOneWidth, DimensionsAreReadExactly, DisplaysAreReadExactly};
+ghost use Rattle.fits_table.specs.Laws.{ColumnsStay, FormsAreReadExactly, FormsHaveOneWidth, DimensionsAreReadExactly, DisplaysAreReadExactly};
 
 /// What is read of a TFORMn is the form that it says, and nothing is read where it says none.
 #[tactic(auto, using(crate::proofs::FormLemmas::laws))]
@@ -16,4 +16,9 @@ pub fn dimensions_are_read_exactly()
 /// A TDISPn is read as each way of display that it says, and as no other.
 pub fn displays_are_read_exactly()
     ensures { DisplaysAreReadExactly }
+{}
+
+/// A change that keeps columns leaves a table what it is, and its columns as wide and where they were.
+pub fn columns_stay()
+    ensures { ColumnsStay }
 {}

@@ -1,5 +1,6 @@
 pub mod CardLemmas
 pub mod ExitLemmas
+pub mod ListedLemmas
 pub mod ListingLemmas
 pub mod NumberedLemmas
 pub mod PixelLineLemmas

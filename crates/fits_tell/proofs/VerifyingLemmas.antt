@@ -3,18 +3,12 @@ use Rattle.std.proofs.Common.{◌≡◌, ℕ, ◌+◌, ◌<◌, ◌≤◌, Bool,
 use Rattle.std.specs.List.{flat_map}
 use Rattle.std.proofs.lemmas.List.{take_all}
 use Rattle.fits_stream.proofs.StreamLemmas.{Gains-none, Prints-more, PrintsFront-more, PrintsFront-longer, GainsFront-more, GainsFront-longer, GainsFront-whole}
-use Rattle.fits_passing.specs.Reading.{GaveWhole}
-use Rattle.fits_passing.specs.declared.problem.Problem.{Problem}
 use Rattle.fits_tell.specs.Faults.{PrintFails}
-use Rattle.fits_tell.specs.Report.{report_text}
-use Rattle.fits_stream.specs.Stream.{SourceState, SinkState, Prints, StaysQuiet}
-use Rattle.fits_tell.specs.Telling.{IsToldReport, PrintingStops, TextStopsBy}
+use Rattle.fits_stream.specs.Stream.{SinkState, Prints}
+use Rattle.fits_tell.specs.Telling.{PrintingStops}
 use Rattle.fits_tell.specs.declared.fault.Fault.{Fault}
 use Rattle.fits_tell.specs.declared.fault.Fault.TheVariants.{Refused, ScriptTooLong, Memory, ReadFailed, WriteFailed, Reread as RereadFault}
-use Rattle.fits_tell.specs.declared.level.Level.{Level}
-use Rattle.fits_tell.specs.declared.telling.Telling.TheVariants as telling
 use Rattle.fits_tell.proofs.ReportLemmas.{lines-more, lines-split}
-use Rattle.fits_tell.proofs.TellingLemmas.{TextStopsBy-printing}
 
 -- a text of which nothing is printed, for want of memory
 pub PrintingStops-none : (a : SinkState) (text : List ℕ) → PrintingStops text a a Memory
@@ -76,9 +70,3 @@ pub prints_line : {X : Type 0} (a b c : SinkState) (line : X → List ℕ) (repo
     → Prints (flat_map line (take (i + 1) report)) a c
 prints_line a b c line report i d l front next =
     rw (lines-more line report i d l) (Prints-more a b c (flat_map line (take i report)) (line (get_or report i d)) front next)
-
--- a report that was read is printed to a prefix
-pub TextStopsBy-report : (file file_after : SourceState) (out out_after : SinkState) (level : Level) (strict cards : Bool) (report : List Problem) (headers : List (List (List ℕ))) (fault : Fault) → GaveWhole file file_after (IsToldReport cards report headers)
-    → StaysQuiet file file_after → PrintingStops (report_text level headers report) out out_after fault → TextStopsBy (telling.Report level strict cards) file file_after out out_after fault
-TextStopsBy-report file file_after out out_after level strict cards report headers fault given quiet stops =
-    TextStopsBy-printing (telling.Report level strict cards) file file_after out out_after given.is.file fault (record { bytes = given.bytes; told = given.told; gave = given.gave; is = given.is.opened }) quiet (rw (← given.is.all, ← given.is.told) stops)

@@ -1,5 +1,6 @@
 pub mod Cards
 pub mod Faults
+pub mod Listed
 pub mod Listing
 pub mod Numbered
 pub mod Patterns

@@ -69,11 +69,3 @@ closing_line report = counts_line (errors_in report) (warnings_in report)
 -- the report as a level prints it, with the cards of these headers: of none, without cards
 abbrev pub report_text : Level → List (List (List ℕ)) → List Problem → List ℕ
 report_text level headers report = problem_lines level headers report ++ closing_line report
-
--- how many problems decide the status: errors, and where it is strict warnings too
-abbrev pub decisive : Bool → List Problem → ℕ
-decisive strict report = if strict then length report else errors_in report
-
--- 1 where there is one, else 0
-abbrev pub status_of_report : Bool → List Problem → ℕ
-status_of_report strict report = if decisive strict report == 0 then 0 else 1

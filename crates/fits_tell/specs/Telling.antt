@@ -12,9 +12,9 @@ use Rattle.fits_passing.specs.declared.open_fault.OpenFault.{OpenFault}
 use Rattle.fits_passing.specs.declared.problem.Problem.{Problem}
 use Rattle.fits_tell.specs.Faults.{status_of_fault}
 use Rattle.fits_tell.specs.Listing.{listing}
-use Rattle.fits_tell.specs.Report.{report_text, status_of_report}
+use Rattle.fits_tell.specs.Listed.{listed_text, status_of_report}
 use Rattle.fits_tell.specs.Stating.{stating}
-use Rattle.fits_tell.specs.TableReport.{status_of_table_report, table_report_of, table_report_text}
+use Rattle.fits_tell.specs.TableReport.{listed_report}
 use Rattle.fits_tell.specs.Summing.{status_of_sums, summing, wrong_summing}
 use Rattle.fits_tell.specs.Untouched.{untouched}
 use Rattle.fits_tell.specs.declared.end.End.{End}
@@ -27,7 +27,7 @@ use Rattle.fits_tell.specs.declared.telling.Telling.TheVariants as telling
 abbrev pub told_headers : Bool → FileParts → List (List (List ℕ))
 told_headers cards file = if cards then cards_of file.hdus else []
 
--- these are the report of the file that bytes are, and the headers that it is told with
+-- these are the report of the file that bytes are, and its headers where they are asked for
 pub record IsToldReport (cards : Bool) (report : List Problem) (headers : List (List (List ℕ))) (bytes : List ℕ) : Type 0 where
   pub file : FileParts
   pub opened : IsFileOf bytes file
@@ -41,8 +41,7 @@ text_of telling.Sums file = summing file
 text_of telling.WrongSums file = wrong_summing file
 text_of telling.Untouched file = untouched file
 text_of telling.Statistics file = stating file
-text_of (telling.Report level strict cards) file = report_text level (told_headers cards file) (report_of file)
-text_of (telling.TableReport level strict cards) file = table_report_text level (told_headers cards file) (table_report_of file)
+text_of (telling.Report level strict cards tables) file = listed_text level (told_headers cards file) (listed_report tables file)
 
 -- what a source gave to its end is the file of these parts
 abbrev pub Opens : SourceState → SourceState → FileParts → Type 0
@@ -55,8 +54,7 @@ status_of_text telling.Sums file = 0
 status_of_text telling.WrongSums file = status_of_sums file
 status_of_text telling.Untouched file = 0
 status_of_text telling.Statistics file = 0
-status_of_text (telling.Report level strict cards) file = status_of_report strict (report_of file)
-status_of_text (telling.TableReport level strict cards) file = status_of_table_report strict (table_report_of file)
+status_of_text (telling.Report level strict cards tables) file = status_of_report strict (listed_report tables file)
 
 -- the text is printed and flushed
 pub record TextIsPrinted (kind : Telling) (file file_after : SourceState) (out out_after : SinkState) (status : ℕ) : Type 0 where

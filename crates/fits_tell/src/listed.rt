@@ -13,7 +13,7 @@ pub enum Listed {
 
 impl Listed {
     ghost use Rattle.std.specs.Prelude.{◌≡◌};
-    ghost use Rattle.fits_tell.specs.TableReport.{is_listed_error, lists_it};
+    ghost use Rattle.fits_tell.specs.Listed.{is_listed_error, lists_it};
 
     /// Whether it is an error.
     pub fn is_error(self) -> bool
@@ -26,7 +26,7 @@ impl Listed {
     }
 
     /// Whether a level lists it.
-    pub(crate) fn is_listed_at(self, level: Level) -> bool
+    pub fn is_listed_at(self, level: Level) -> bool
         ensures { result ≡ lists_it level self }
     {
         match level {

@@ -1,8 +1,7 @@
-//! The report of a file as it is printed.
+//! The report of a file as the line `rep` prints it.
 ghost use Rattle.std.specs.Prelude.{◌≡◌, ◌++◌, ◌≤◌, [], length, IfOk, OnOk};
-ghost use Rattle.fits_tell.specs.Report.{closing_line, counts_line, errors_in, problem_line, problem_text, decisive, report_text, status_of_report};
+ghost use Rattle.fits_tell.specs.Report.{closing_line, counts_line, errors_in, problem_line, problem_text, report_text};
 
-use crate::end::one_if;
 use crate::level::Level;
 use crate::pushing::{push_both, push_number};
 use fits_passing::Problem;
@@ -40,8 +39,8 @@ pub(crate) fn push_problem_text(text: &mut Vec<u8>, it: Problem) -> Result<(), A
     push_both(text, b" ", code.text().as_bytes())
 }
 
-/// The closing line: it counts all problems.
-pub(crate) fn push_closing_line(text: &mut Vec<u8>, report: &[Problem]) -> Result<(), AllocError>
+// The closing line: it counts all problems.
+fn push_closing_line(text: &mut Vec<u8>, report: &[Problem]) -> Result<(), AllocError>
     ensures { OnOk result (text.new.items ≡ text.old.items ++ closing_line report.now) }
 {
     let errors = count_errors(report);
@@ -60,24 +59,6 @@ pub(crate) fn push_counts(
     push_number(text, b"errors ", errors as u64)?;
     push_number(text, b" warnings ", warnings as u64)?;
     text.extend_from_slice(b"\n")
-}
-
-/// The status of a run that has printed a report, at whatever level.
-pub(crate) fn status_of_report(strict: bool, report: &[Problem]) -> u8
-    ensures { result ≡ status_of_report strict report.now }
-{
-    one_if(decisive(strict, report) != 0)
-}
-
-// How many problems decide it.
-fn decisive(strict: bool, report: &[Problem]) -> usize
-    ensures { result ≡ decisive strict report.now }
-{
-    if strict {
-        report.len()
-    } else {
-        count_errors(report)
-    }
 }
 
 #[tactic(auto, using(crate::proofs::ReportLemmas::count_steps))]

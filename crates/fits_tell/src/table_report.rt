@@ -1,10 +1,10 @@
-//! The report of a file with what is wrong with its tables.
+//! The report of a file, with what is wrong with its tables or without.
 ghost use Rattle.std.specs.Prelude.{◌≡◌, ◌≤◌, ◌++◌, length, map, IfOk, OnOk};
 ghost use Rattle.std.specs.List.{prefix_len};
 ghost use Rattle.fits_passing.specs.File.{is_primary_hdu};
 ghost use Rattle.fits_passing.specs.Headers.{read_cards};
 ghost use Rattle.fits_tell.specs.declared.listed.Listed.TheVariants.{OfFile};
-ghost use Rattle.fits_tell.specs.TableReport.{after_table, before_table, is_before_table, of_table, with_tables};
+ghost use Rattle.fits_tell.specs.TableReport.{after_table, before_table, is_before_table, listed_by, of_table, with_tables};
 
 use crate::listed::Listed;
 use crate::table_problem::TableProblem;
@@ -13,15 +13,34 @@ use fits_passing::Problem;
 use fits_table::{TableCode, judge_table};
 use std::alloc::{AllocError, Global};
 
-/// A report with tables, and the headers that it was made of.
+/// A report, and the headers that it was made of.
 #[derive(Drop)]
 pub(crate) struct TableReport {
     pub problems: Vec<Listed>,
     pub headers: Vec<CardList>,
 }
 
-/// A report with what is wrong with the tables of these headers, one of each HDU.
-pub(crate) fn with_tables(
+/// A report with what is wrong with the tables of these headers, or without.
+pub(crate) fn listed_by(
+    alloc: Global,
+    tables: bool,
+    report: &[Problem],
+    headers: Vec<CardList>,
+) -> Result<TableReport, AllocError>
+    ensures problems { IfOk result (λ it. it.problems.items
+        ≡ listed_by tables (read_cards headers.items) report.now) }
+    ensures headers { IfOk result (λ it. read_cards it.headers.items ≡ read_cards headers.items) }
+{
+    if tables {
+        return with_tables(alloc, report, headers);
+    }
+    let mut problems = Vec::new(alloc);
+    push_problems(&mut problems, report)?;
+    Ok(TableReport { problems, headers })
+}
+
+// A report with what is wrong with the tables of these headers, one of each HDU.
+fn with_tables(
     alloc: Global,
     report: &[Problem],
     headers: Vec<CardList>,

@@ -11,7 +11,6 @@ use crate::stating::statistics;
 use crate::summing::{sum, wrong_sums};
 use crate::untouched::untouched_sums;
 use crate::verifying::verify;
-use crate::verifying_tables::verify_tables;
 use fits_stream::{Sink, Source};
 use std::alloc::Global;
 
@@ -35,12 +34,8 @@ pub enum Telling {
         strict: bool,
         /// Whether each line has the card of its problem.
         cards: bool,
-    },
-    /// The same with what is wrong with tables.
-    TableReport {
-        level: Level,
-        strict: bool,
-        cards: bool,
+        /// Whether what is wrong with tables is told, too.
+        tables: bool,
     },
 }
 
@@ -102,11 +97,7 @@ fn print_text<F: Source, O: Sink>(
             level,
             strict,
             cards,
-        } => verify(alloc, level, strict, cards, file, out),
-        Telling::TableReport {
-            level,
-            strict,
-            cards,
-        } => verify_tables(alloc, level, strict, cards, file, out),
+            tables,
+        } => verify(alloc, level, strict, cards, tables, file, out),
     }
 }

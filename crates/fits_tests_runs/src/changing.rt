@@ -17,6 +17,8 @@ const FILE_LEN: usize = 3 * 2880;
 /// What is saved of each file, whatever it was before.
 const TERMS: Terms = Terms {
     sums: false,
+    extended: false,
+    tables: false,
     spare: false,
     saves: Saves::Made {
         whole: false,

@@ -1,9 +1,9 @@
-ghost use Rattle.std.specs.Prelude.{◌≡◌, ◌≤◌, ◌<◌, ◌^◌, true, false, ℕ, List, Some, length, IfErr, IfOk, IsTrue, OnOk};
+ghost use Rattle.std.specs.Prelude.{◌≡◌, ◌≤◌, ◌<◌, ◌+◌, ◌^◌, true, false, ℕ, List, Some, length, IfErr, IfOk, IsOk, IsTrue, OnErr, OnOk};
 ghost use Rattle.fits_stream.specs.Agree.{IsOf, ReadsOn};
 ghost use Rattle.fits_sum.specs.Words.{word_total};
 ghost use Rattle.fits_pixels.specs.Layout.{block_count};
 ghost use Rattle.fits_unit.specs.Again.{Follows, LoadCounts};
-ghost use Rattle.fits_unit.specs.DataUnit.{absence_of, away_plane, is_passed, LiesIn};
+ghost use Rattle.fits_unit.specs.DataUnit.{absence_of, away_plane, is_passed, passed_blank, unit_at, LiesIn};
 
 use crate::absent::Absent;
 use crate::again::{CopyFault, LoadFault, copy_again, pass_again, read_again};
@@ -318,6 +318,8 @@ impl DataUnit {
     ) -> Result<(), LoadFault>
         requires { 2880 ≤ length room.old }
         ensures known { OnOk result (IsKnown self.new.absent) }
+        ensures fresh { (IsKnown self.old.absent → ⊥)
+            → OnOk result (IsCounted self.new.plane self.new.absent) }
         ensures same { (told : List ℕ) → IsOf told log.new → LiesIn told self.old.plane self.old.absent
             → OnOk result (self.new.plane.bytes ≡ unit_at told self.old.plane.bytes self.old.absent) }
         ensures lies { (told : List ℕ) → IsOf told log.new → LiesIn told self.old.plane self.old.absent
@@ -343,16 +345,12 @@ impl DataUnit {
         ensures looked { log.new.looked ≡ log.old.looked }
         ensures room { length room.new ≡ length room.old }
     {
-        let Some(it) = &mut self.absent else {
+        let Some(mut it) = self.absent.take() else {
             return Ok(());
         };
-        let AwayUnit::Unread(unit) = &it.unit else {
-            return Ok(());
-        };
-        let len = unit.byte_len();
-        let passed = pass_again(file, log, it.place, len, unit.layout(), room)?;
-        it.unit = AwayUnit::Passed(passed);
-        Ok(())
+        let known = know_absent(file, log, &mut it, room);
+        self.absent = Some(it);
+        known
     }
 
     /// Reads it into memory, where it isn't, through a room: each of its blocks is scanned once (again,
@@ -470,6 +468,53 @@ fn has_another_total(unit: &AwayUnit, total: u64) -> bool
         AwayUnit::Passed(it) => it.total() != total,
         AwayUnit::Unread(_) => false,
     }
+}
+
+// Has a unit known that isn't in memory, where it isn't known: its bytes pass by.
+fn know_absent<F: Stored>(
+    file: &F,
+    log: &mut ReadLog,
+    it: &mut Absent,
+    room: &mut [u8],
+) -> Result<(), LoadFault>
+    requires { 2880 ≤ length room.old }
+    ensures known { OnOk result (is_passed it.new.unit ≡ true) }
+    ensures fresh { is_passed it.old.unit ≡ false
+        → OnOk result ((away_plane it.new.unit).layout.blank ≡ passed_blank it.new.unit) }
+    ensures same { (told : List ℕ) → IsOf told log.new
+        → LiesIn told (away_plane it.old.unit) (absence_of (Some it.old))
+        → OnOk result ((away_plane it.new.unit).bytes
+        ≡ unit_at told (away_plane it.old.unit).bytes (absence_of (Some it.old))) }
+    ensures lies { (told : List ℕ) → IsOf told log.new
+        → LiesIn told (away_plane it.old.unit) (absence_of (Some it.old))
+        → LiesIn told (away_plane it.new.unit) (absence_of (Some it.new)) }
+    ensures place { it.new.place ≡ it.old.place }
+    ensures layout { (away_plane it.new.unit).layout ≡ (away_plane it.old.unit).layout }
+    ensures size { length (away_plane it.new.unit).bytes ≡ length (away_plane it.old.unit).bytes }
+    ensures idle { is_passed it.old.unit ≡ true → it.new ≡ it.old }
+    ensures at_once { is_passed it.old.unit ≡ true → IsOk result }
+    ensures reads { (away_plane it.new.unit).reads ≡ (away_plane it.old.unit).reads }
+    ensures joins { (away_plane it.new.unit).joins ≡ (away_plane it.old.unit).joins }
+    ensures more_scans { (away_plane it.old.unit).scans ≤ (away_plane it.new.unit).scans }
+    ensures scans { (away_plane it.new.unit).scans
+        ≤ (away_plane it.old.unit).scans + block_count (away_plane it.old.unit).bytes }
+    ensures quiet { OnOk result (log.new.failures ≡ log.old.failures) }
+    ensures err { OnErr result (it.new ≡ it.old) }
+    ensures counted { IfErr result (LoadCounts log.old.failures log.new.failures) }
+    ensures steady { (told : List ℕ) → IsOf told log.new
+        → LiesIn told (away_plane it.old.unit) (absence_of (Some it.old))
+        → IfErr result (λ why. why ≡ LoadFault.Changed → ⊥) }
+    ensures follows { Follows log.old log.new }
+    ensures looked { log.new.looked ≡ log.old.looked }
+    ensures room { length room.new ≡ length room.old }
+{
+    let AwayUnit::Unread(unit) = &it.unit else {
+        return Ok(());
+    };
+    let layout = unit.layout();
+    let passed = pass_again(file, log, it.place, unit.byte_len(), layout, room)?;
+    it.unit = AwayUnit::Passed(passed);
+    Ok(())
 }
 
 // The plane of a data unit that isn't in memory, as its file has it now, which is to have the length,

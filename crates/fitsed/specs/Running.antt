@@ -13,6 +13,7 @@ use Rattle.fits_tell.specs.declared.fault.Fault.TheVariants.{Memory, ReadFailed,
 use Rattle.fits_tell.specs.declared.reread.Reread.TheVariants as again
 use Rattle.fits_tell.specs.declared.level.Level.{Level}
 use Rattle.fits_tell.specs.declared.level.Level.TheVariants.{All, Errors, Quiet}
+use Rattle.fits_cli.specs.declared.manner.Manner.{Manner}
 use Rattle.fits_cli.specs.declared.saves.Saves.TheVariants.{Made}
 use Rattle.fits_cli.specs.declared.terms.Terms.{Terms}
 use Rattle.fitsed.specs.Saving.{StandsOrFails}
@@ -66,7 +67,7 @@ level_by true true = All
 
 -- the terms of a run, by what was asked for
 abbrev pub terms_by : SavingTerms → Bool → Terms
-terms_by asked spare = record { sums = asked.sums; spare = spare; saves = Made asked.whole (level_by asked.checked asked.strict) }
+terms_by asked spare = record { sums = asked.sums; extended = asked.extended; tables = asked.tables; spare = spare; saves = Made asked.whole (level_by asked.checked asked.strict) }
 
 -- a run over a file was made, and its result kept, if it could be: nothing was written before where it goes
 pub record EditsFile (asked : SavingTerms) (script script' : SourceState) (out out' : SinkState) (ended : Result Edited Fault) : Type 0 where
@@ -91,23 +92,23 @@ abbrev pub Edits : SavingTerms → SourceState → SourceState → SinkState →
 Edits asked script script' out out' ended = EditsFile asked script script' out out' ended ⊎ EditsNothing script script' out out' ended
 
 -- a script was done over a file that stays where it is
-pub record AsksByPlaces (script script' : SourceState) (out out' : SinkState) (end : End) : Type 0 where
+pub record AsksByPlaces (manner : Manner) (script script' : SourceState) (out out' : SinkState) (end : End) : Type 0 where
   pub log : ReadLogState
   pub told : Option SinkState
   pub told_after : Option SinkState
-  pub ends : OverReads unread log (λ file after. (saved : SinkState) → EndsAs (run_by asking true file script out) (run_by asking true after script' out') saved saved end)
-  pub remarks : OverReads unread log (λ file after. RemarksEndAs asking file after script script' told told_after end)
+  pub ends : OverReads unread log (λ file after. (saved : SinkState) → EndsAs (run_by (asking manner) true file script out) (run_by (asking manner) true after script' out') saved saved end)
+  pub remarks : OverReads unread log (λ file after. RemarksEndAs (asking manner) file after script script' told told_after end)
   pub leaves : AsksLeave script script' out out' end
 
 -- a script was done over a file that is read through
-pub record AsksThrough (script script' : SourceState) (out out' : SinkState) (end : End) : Type 0 where
+pub record AsksThrough (manner : Manner) (script script' : SourceState) (out out' : SinkState) (end : End) : Type 0 where
   pub file : SourceState
   pub after : SourceState
   pub told : Option SinkState
   pub told_after : Option SinkState
   pub fresh : file.log ≡ Some unbegun
-  pub ends : (saved : SinkState) → EndsAs (run_by asking false file script out) (run_by asking false after script' out') saved saved end
-  pub remarks : RemarksEndAs asking file after script script' told told_after end
+  pub ends : (saved : SinkState) → EndsAs (run_by (asking manner) false file script out) (run_by (asking manner) false after script' out') saved saved end
+  pub remarks : RemarksEndAs (asking manner) file after script script' told told_after end
 
 -- none was begun, for want of memory: no other stream was touched
 pub record AsksNothing (script script' : SourceState) (out out' : SinkState) (end : End) : Type 0 where
@@ -116,5 +117,5 @@ pub record AsksNothing (script script' : SourceState) (out out' : SinkState) (en
   pub out_is : out' ≡ out
 
 -- a script is done over a file, and nothing saved; or it isn't
-abbrev pub AsksFile : SourceState → SourceState → SinkState → SinkState → End → Type 0
-AsksFile script script' out out' end = AsksByPlaces script script' out out' end ⊎ (AsksThrough script script' out out' end ⊎ AsksNothing script script' out out' end)
+abbrev pub AsksFile : Manner → SourceState → SourceState → SinkState → SinkState → End → Type 0
+AsksFile manner script script' out out' end = AsksByPlaces manner script script' out out' end ⊎ (AsksThrough manner script script' out out' end ⊎ AsksNothing script script' out out' end)

@@ -19,6 +19,7 @@ const EDITS: Form = Form {
     words: &[
         Word::Line,
         Word::File,
+        Word::Extended,
         Word::Verbose(WHY_LINES),
         Word::Named,
         Word::RecursiveInPlace,
@@ -38,6 +39,11 @@ const EDITS: Form = Form {
             "sums",
             's',
             "Keep sums right that are right, and leave wrong ones as they are",
+        ),
+        Word::Flag(
+            "tables",
+            't',
+            "Refuse what would leave a table other columns, and count its errors with -c",
         ),
         Word::Done,
         Word::NoClobber,
@@ -61,11 +67,17 @@ const ASKS: Form = Form {
     words: &[
         Word::Line,
         Word::File,
+        Word::Extended,
         Word::Verbose(WHY_LINES),
         Word::Named,
         Word::Recursive,
         Word::NamesFrom,
         Word::Files,
+        Word::Flag(
+            "tables",
+            't',
+            "Refuse what would leave a table other columns",
+        ),
     ],
 };
 

@@ -259,6 +259,8 @@ fn terms_of(terms: SavingTerms<'_>, there: Standing) -> Terms
     };
     Terms {
         sums: terms.sums,
+        extended: terms.extended,
+        tables: terms.tables,
         spare: matches!(there, Standing::Same),
         saves: Saves::Made {
             whole: terms.whole,

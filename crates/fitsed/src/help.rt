@@ -135,6 +135,17 @@ pub(crate) const LINES: &str = "Lines of the script, words separated by one spac
   off                  print where each HDU begins, its data begin, and it ends
   rep                  print what is wrong, and count it
   # text               nothing; so does an empty line
+With -x extended lines too, each for some of these, by the file as it is then:
+  val H NAME FIELD     give a keyword a value: its comment stays, and none is added
+  note H NAME COMMENT  give a keyword a comment: its value stays
+  ren H NAME NEW       give a keyword another name: all else of it stays
+  add H CARD           insert a card after the last that isn't blank
+  hist H TEXT          insert as many HISTORY cards as the text needs
+  want H NAME FIELD    nothing, where the keyword has this value; else it is refused
+  want H NAME          nothing, where there is such a card; else it is refused
+  lack H NAME          nothing, where there is none; else it is refused
+  and for the number H @NAME or @NAME,VER: the first extension of that EXTNAME and EXTVER
+  and with -a in edits *: each HDU, in order; nothing is saved if one refuses
 Values of pixels are the stored numbers, with the offset of unsigned integers and signed bytes;
 other BSCALE and BZERO aren't applied.
 

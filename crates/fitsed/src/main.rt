@@ -113,7 +113,11 @@ fn status_of<R: Files<File = File> + Input + Print + Eprint + AllocGlobal + Clon
             };
             edit_in_place(rt, &script, files, done, terms, detail)
         }
-        Task::Ask { script, files } => ask(rt, &script, files, detail),
+        Task::Ask {
+            script,
+            manner,
+            files,
+        } => ask(rt, &script, manner, files, detail),
         Task::Show { choice, files } => each(rt, Job::Show(&choice), files, detail),
         Task::Table { choice, files } => each(rt, Job::Table(&choice), files, detail),
         Task::Tell { telling, files } => each(rt, Job::Tell(telling), files, detail),

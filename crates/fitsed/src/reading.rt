@@ -14,7 +14,9 @@ use crate::scaled::{has_pixel_line, tell_scaled};
 use crate::subject::Subject;
 use crate::task::Inputs;
 use crate::words::oddity_of;
-use fits_cli::{CardChoice, End, Fault, Telling, run_ask, run_ask_stored, run_cards, run_telling};
+use fits_cli::{
+    CardChoice, End, Fault, Manner, Telling, run_ask, run_ask_stored, run_cards, run_telling,
+};
 use fits_keys::{KeyChoice, heading, run_keys};
 use fits_stream::{NamedLines, ReadLog, Sink, Source, Watched};
 use fits_tell::print_at_once;
@@ -27,7 +29,7 @@ use std::{fs, io, rt};
 #[derive(Clone, Copy)]
 pub enum Job<'j> {
     /// A script is answered.
-    Ask(&'j [u8]),
+    Ask { script: &'j [u8], manner: Manner },
     /// Its cards are shown.
     Show(&'j CardChoice),
     /// Values of its keywords are printed.
@@ -47,7 +49,7 @@ impl Job<'_> {
     // Whether it is about values of pixels.
     fn has_values(&self) -> bool {
         match *self {
-            Job::Ask(script) => has_pixel_line(script),
+            Job::Ask { script, .. } => has_pixel_line(script),
             Job::Tell(Telling::Statistics) => true,
             _ => false,
         }
@@ -59,6 +61,7 @@ impl Job<'_> {
 pub fn ask<R: rt::Files<File = File> + Input + Print + Eprint + AllocGlobal + Clone + Drop>(
     rt: &R,
     script: &[Piece<'_>],
+    manner: Manner,
     files: Inputs<'_, '_>,
     detail: Detail<'_>,
 ) -> u8 {
@@ -69,10 +72,16 @@ pub fn ask<R: rt::Files<File = File> + Input + Print + Eprint + AllocGlobal + Cl
             named: files.named,
             detail,
         };
-        return ask_as_it_comes(rt, subject);
+        return ask_as_it_comes(rt, manner, subject);
     }
     match script_of(rt, script) {
-        Ok(text) => each(rt, Job::Ask(&text), files, detail),
+        Ok(text) => {
+            let job = Job::Ask {
+                script: &text,
+                manner,
+            };
+            each(rt, job, files, detail)
+        }
         Err(why) => reported_script(rt, detail, why),
     }
 }
@@ -227,6 +236,7 @@ fn one<R: rt::Files<File = File> + Eprint + AllocGlobal, W: Write>(
 // Answers standard input over one file, as it comes.
 fn ask_as_it_comes<R: rt::Files<File = File> + Input + Print + Eprint + AllocGlobal>(
     rt: &R,
+    manner: Manner,
     subject: Subject<'_>,
 ) -> u8 {
     let Ok(mut out) = BufWriter::new(rt.alloc(), io::writer(rt)) else {
@@ -242,9 +252,9 @@ fn ask_as_it_comes<R: rt::Files<File = File> + Input + Print + Eprint + AllocGlo
     let mut out = Watched::new(&mut out);
     let end = if subject.named {
         let mut out = NamedLines::new(out, name.as_bytes());
-        asked(rt.alloc(), subject, file, &mut script, &mut out)
+        asked(rt.alloc(), manner, subject, file, &mut script, &mut out)
     } else {
-        asked(rt.alloc(), subject, file, &mut script, &mut out)
+        asked(rt.alloc(), manner, subject, file, &mut script, &mut out)
     };
     match end.fault {
         Some(fault) => reported_of(rt, subject, INPUT, fault),
@@ -261,9 +271,9 @@ fn run<R: Eprint + AllocGlobal, O: Sink>(
     out: &mut O,
 ) -> End {
     match job {
-        Job::Ask(text) => {
-            let mut script = text;
-            asked(rt.alloc(), subject, file, &mut script, out)
+        Job::Ask { script, manner } => {
+            let mut script = script;
+            asked(rt.alloc(), manner, subject, file, &mut script, out)
         }
         Job::Show(choice) => {
             let done = run_cards(rt.alloc(), choice, &mut source_of(file), out);
@@ -278,12 +288,13 @@ fn run<R: Eprint + AllocGlobal, O: Sink>(
 // Answers a script over a file. The data of a regular one are read where they are wanted.
 fn asked<S: Source, O: Sink>(
     alloc: Global,
+    manner: Manner,
     subject: Subject<'_>,
     file: File,
     script: &mut S,
     out: &mut O,
 ) -> End
-    ensures { AsksFile (S.state script.old) (S.state script.new)
+    ensures { AsksFile manner (S.state script.old) (S.state script.new)
         (O.state out.old) (O.state out.new) result }
 {
     let Ok(before) = before_remarks(alloc, subject) else {
@@ -293,9 +304,24 @@ fn asked<S: Source, O: Sink>(
         return End::from(Fault::Memory);
     };
     if is_stored(&file) {
-        return run_ask_stored(alloc, &file, &mut ReadLog::none(), script, out, &mut told);
+        return run_ask_stored(
+            alloc,
+            manner,
+            &file,
+            &mut ReadLog::none(),
+            script,
+            out,
+            &mut told,
+        );
     }
-    run_ask(alloc, &mut Watched::new(file), script, out, &mut told)
+    run_ask(
+        alloc,
+        manner,
+        &mut Watched::new(file),
+        script,
+        out,
+        &mut told,
+    )
 }
 
 // Prints what stands above the lines of all files: the names of the columns of a table.

@@ -3,7 +3,7 @@ use crate::piece::{Piece, pieces_of};
 use crate::words::oddity_of;
 use clap::ArgMatches;
 use fits_card::Name;
-use fits_cli::{CardChoice, Level, NamePattern, Telling};
+use fits_cli::{CardChoice, Level, Manner, NamePattern, Telling};
 use fits_keys::KeyChoice;
 use fits_save::Saving;
 use std::alloc::{AllocError, Global};
@@ -35,6 +35,7 @@ pub enum Task<'m, 'a> {
     /// A script is done on each file, and nothing is saved.
     Ask {
         script: Vec<Piece<'a>>,
+        manner: Manner,
         files: Inputs<'m, 'a>,
     },
     /// Cards of each file are printed.
@@ -77,6 +78,10 @@ pub struct SavingTerms<'a> {
     pub strict: bool,
     /// So that sums that were right are right.
     pub sums: bool,
+    /// With extended lines.
+    pub extended: bool,
+    /// So that the columns of tables stay.
+    pub tables: bool,
     /// Only where nothing stands.
     pub fresh: bool,
     /// Only where the file that stands there stays whole, or is kept.
@@ -144,6 +149,10 @@ pub fn task_of<'m, 'a>(
     Ok(match name {
         "ask" => Task::Ask {
             script: pieces_of(alloc, words)?,
+            manner: Manner {
+                extended: words.get_flag("extended"),
+                tables: words.get_flag("tables"),
+            },
             files,
         },
         "cards" if words.get_flag("files-without") => Task::Lack {
@@ -227,6 +236,8 @@ fn terms_of<'a>(words: &ArgMatches<'a>) -> SavingTerms<'a> {
         checked: words.get_flag("check"),
         strict: words.get_flag("warnings"),
         sums: words.get_flag("sums"),
+        extended: words.get_flag("extended"),
+        tables: words.get_flag("tables"),
         fresh: words.get_flag("no-clobber"),
         saving: Saving {
             safe: words.get_flag("safe"),
@@ -292,19 +303,11 @@ fn telling_of<'a>(name: &str, words: &ArgMatches<'a>) -> Result<Telling, TaskFau
 
 // The report of `verify`, as a level has it.
 fn report_of(words: &ArgMatches<'_>, level: Level, cards: bool) -> Telling {
-    let strict = words.get_flag("warnings");
-    if words.get_flag("tables") {
-        Telling::TableReport {
-            level,
-            strict,
-            cards,
-        }
-    } else {
-        Telling::Report {
-            level,
-            strict,
-            cards,
-        }
+    Telling::Report {
+        level,
+        strict: words.get_flag("warnings"),
+        cards,
+        tables: words.get_flag("tables"),
     }
 }
 

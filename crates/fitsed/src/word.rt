@@ -11,6 +11,8 @@ pub enum Word {
     Line,
     /// A file with lines of the script.
     File,
+    /// Whether extended lines are taken.
+    Extended,
     /// Whether standard error is told more.
     Verbose(&'static str),
     /// Whether warnings count as errors.
@@ -58,6 +60,7 @@ impl Word {
             Word::Flag(id, letter, help) => Ok(flag(alloc, id, letter, help)),
             Word::Line => Ok(line(alloc)),
             Word::File => Ok(file(alloc)),
+            Word::Extended => Ok(extended(alloc)),
             Word::Verbose(help) => Ok(flag(alloc, "verbose", 'v', help)),
             Word::Strict => strict(alloc),
             Word::Done => done(alloc),
@@ -89,6 +92,11 @@ fn line<'a>(alloc: Global) -> Arg<'a> {
 fn file<'a>(alloc: Global) -> Arg<'a> {
     let help = "A file with lines of the script, - for standard input; may be repeated";
     list(alloc, "file", 'f', "SCRIPT", help)
+}
+
+fn extended<'a>(alloc: Global) -> Arg<'a> {
+    let help = "Take extended lines too, each for a plain line";
+    flag(alloc, "extended", 'x', help)
 }
 
 fn strict<'a>(alloc: Global) -> Result<Arg<'a>, AllocError> {

@@ -67,6 +67,8 @@ impl Hdu {
     ) -> Result<(), LoadFault>
         requires { 2880 ≤ length room.old }
         ensures known { OnOk result (IsSeen self.new) }
+        ensures fresh { (IsSeen self.old → ⊥)
+            → OnOk result (IsCounted self.new.plane self.new.absent) }
         ensures same { (told : List ℕ) → IsOf told log.new → LiesIn told self.old.plane self.old.absent
             → OnOk result (parts_of self.new ≡ parts_of (hdu_at told self.old)) }
         ensures lies { (told : List ℕ) → IsOf told log.new → LiesIn told self.old.plane self.old.absent

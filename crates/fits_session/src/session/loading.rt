@@ -1,17 +1,14 @@
 //! A session over a stored file, in which data units lie until they are wanted.
-ghost use Rattle.std.specs.Prelude.{◌≡◌, ℕ, List, None, true, map, All, IfErr, IsOk, OnOk};
+ghost use Rattle.std.specs.Prelude.{◌≡◌, ℕ, List, true, All, IfErr, IsOk, OnOk};
 ghost use Rattle.fits_unit.specs.Again.{Follows, LoadCounts};
-ghost use Rattle.fits_hdu.specs.State.{hdu_at};
-ghost use Rattle.fits_making.specs.Making.{IsHad};
-ghost use Rattle.fits_session.specs.Away.{IsTold, LoadEach};
-ghost use Rattle.fits_session.specs.Session.{hdus_of, IsSeen};
+ghost use Rattle.fits_session.specs.Away.{IsTold, LoadsAll};
+ghost use Rattle.fits_session.specs.Session.{marked_of, reads_of, session_at, IsSeen};
 
 use super::Session;
 use super::finding::index_of;
 use super::reading::read_away;
 use crate::holder::{Holder, InFile};
 use fits_edit::{Edit, HduEdit};
-use fits_hdu::Hdu;
 use fits_passing::{Look, ReadFileFault};
 use fits_rules::array_bits;
 use fits_stream::{ReadLog, Stored, StoredSource};
@@ -73,6 +70,8 @@ impl<H: Holder + Drop> Session<H> {
     /// lies in its file. Reads that fail are counted.
     pub fn know(&mut self, h: usize, log: &mut ReadLog) -> Result<(), LoadFault>
         ensures known { OnOk result (IsSoOf IsSeen h self.new.hdus) }
+        ensures fresh { (IsSoOf IsSeen h self.old.hdus → ⊥)
+            → OnOk result (IsSoOf HasStats h self.new.hdus) }
         ensures wanted { OnErr result (IsSome (hdu_of (file_of self.old) h)) }
         ensures same { (told : List ℕ) → IsTold H.whole told log.new self.old.hdus
             → OnOk result (marked_of (session_at told self.new) ≡ marked_of (session_at told self.old)) }
@@ -118,7 +117,7 @@ impl<H: Holder + Drop> Session<H> {
         ensures whole { H.whole ≡ true → IsOk result }
         ensures reads { reads_of self.new.hdus ≡ reads_of self.old.hdus }
     {
-        know_each(&mut self.holder, &mut self.hdus, log)
+        know_each(self, log)
     }
 
     /// Has the data unit of HDU h in memory, if there is one: where it lies in a file it is read, and
@@ -261,13 +260,16 @@ impl<H: Holder + Drop> Session<H> {
         ensures seen { All IsSeen self.old.hdus → All IsSeen self.new.hdus }
         ensures whole { H.whole ≡ true → IsOk result }
     {
+        if !self.is_image(h) {
+            return Ok(());
+        }
         if self.has_counts(h) {
             return Ok(());
         }
-        if self.is_unread_image(h) {
+        if self.is_unread(h) {
             return self.know(h, log);
         }
-        self.load_pixels(h, log)
+        self.load(h, log)
     }
 
     // Whether HDU h is there and an image of integers.
@@ -283,13 +285,12 @@ impl<H: Holder + Drop> Session<H> {
         }
     }
 
-    // Whether HDU h is there and an image of integers, and its data unit is unread.
-    fn is_unread_image(&self, h: usize) -> bool
-        ensures is { result ≡ true → IsOk (kind_in (file_of self.now) h) }
-        ensures unread { result ≡ true → IsSoOf IsSeen h self.now.hdus → ⊥ }
+    // Whether HDU h is there and its data unit unread.
+    fn is_unread(&self, h: usize) -> bool
+        ensures { result ≡ true → IsSoOf IsSeen h self.now.hdus → ⊥ }
     {
         match index_of(&self.hdus, h) {
-            Ok(i) => self.hdus[i].kind().is_some() && !self.hdus[i].is_known(),
+            Ok(i) => !self.hdus[i].is_known(),
             Err(_) => false,
         }
     }
@@ -320,31 +321,31 @@ impl<H: Holder + Drop> Session<H> {
     }
 }
 
-// Has the data unit of each HDU known.
-fn know_each<H: Holder>(
-    holder: &mut H,
-    hdus: &mut Vec<Hdu>,
+// Has the data unit of each HDU known, one after another.
+fn know_each<H: Holder + Drop>(
+    session: &mut Session<H>,
     log: &mut ReadLog,
 ) -> Result<(), LoadFault>
-    requires { All (IsHad (record { whole = H.whole; told = None })) hdus.old.items }
-    ensures known { OnOk result (All IsSeen hdus.new.items) }
-    ensures had { All (IsHad (record { whole = H.whole; told = None })) hdus.new.items }
-    ensures same { (told : List ℕ) → IsTold H.whole told log.new hdus.old.items
-        → hdus_of (map (hdu_at told) hdus.new.items) ≡ hdus_of (map (hdu_at told) hdus.old.items) }
-    ensures each { LoadEach hdus.old.items hdus.new.items }
-    ensures idle { All IsSeen hdus.old.items → hdus.new.items ≡ hdus.old.items }
-    ensures at_once { All IsSeen hdus.old.items → IsOk result }
+    ensures known { OnOk result (All IsSeen session.new.hdus) }
+    ensures same { (told : List ℕ) → IsTold H.whole told log.new session.old.hdus
+        → marked_of (session_at told session.new) ≡ marked_of (session_at told session.old) }
+    ensures each { LoadsAll session.old session.new }
+    ensures idle { All IsSeen session.old.hdus → session.new ≡ session.old }
+    ensures at_once { All IsSeen session.old.hdus → IsOk result }
     ensures quiet { OnOk result (log.new.failures ≡ log.old.failures) }
     ensures counted { IfErr result (LoadCounts log.old.failures log.new.failures) }
-    ensures unchanged { (told : List ℕ) → IsTold H.whole told log.new hdus.old.items
+    ensures unchanged { (told : List ℕ) → IsTold H.whole told log.new session.old.hdus
         → IfErr result (λ why. why ≡ LoadFault.Changed → ⊥) }
     ensures follows { Follows log.old log.new }
-    ensures told { (told : List ℕ) → IsTold H.whole told log.new hdus.old.items
-        → IsTold H.whole told log.new hdus.new.items }
+    ensures told { (told : List ℕ) → IsTold H.whole told log.new session.old.hdus
+        → IsTold H.whole told log.new session.new.hdus }
+    ensures seen { All IsSeen session.old.hdus → All IsSeen session.new.hdus }
     ensures whole { H.whole ≡ true → IsOk result }
+    ensures reads { reads_of session.new.hdus ≡ reads_of session.old.hdus }
 {
-    for i in 0..hdus.len() {
-        holder.know(&mut hdus[i], log)?;
+    let count = session.hdus();
+    for i in 0..count {
+        session.know(i + 1, log)?;
     }
     Ok(())
 }

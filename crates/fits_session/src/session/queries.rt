@@ -10,7 +10,7 @@ use super::finding::index_of;
 use super::vouching::is_kept;
 use crate::holder::Holder;
 use crate::name_table::NameTable;
-use fits_card::Name;
+use fits_card::{Card, Name};
 use fits_codes::Code;
 use fits_hdu::{Hdu, Stats, Verdicts};
 use fits_header::Counts;
@@ -22,14 +22,14 @@ use fits_value::{Text, Value};
 use std::alloc::{AllocError, Global};
 
 impl<H: Holder + Drop> Session<H> {
-    ghost use Rattle.std.specs.Prelude.{◌≡◌, true, length, All, IfOk, IfErr, OnOk, OnErr, None, Ok};
+    ghost use Rattle.std.specs.Prelude.{◌≡◌, ◌<◌, ◌^◌, true, length, All, IfOk, IfErr, OnOk, OnErr, None, Ok};
     ghost use Rattle.fits_plane.specs.Rectangle.{rectangle_size};
     ghost use Rattle.fits_session.specs.Away.{LieStill};
     ghost use Rattle.fits_session.specs.Edit.{hdu_of};
     ghost use Rattle.fits_passing.specs.File.{offsets_from};
     ghost use Rattle.fits_making.specs.Keeping.{both_right};
     ghost use Rattle.fits_session.specs.Marked.{kept_in};
-    ghost use Rattle.fits_session.specs.Query.{card_count_in, datasum_in, kind_in, names_in, positions_in, rect_in, shape_in, stats_in, value_in, verdicts_in, PlacesFail, QueryFails};
+    ghost use Rattle.fits_session.specs.Query.{card_count_in, card_in, datasum_in, kind_in, names_in, positions_in, rect_in, shape_in, stats_in, value_in, verdicts_in, PlacesFail, QueryFails};
     ghost use Rattle.fits_passing.specs.Report.{counts_in, report_of};
     ghost use Rattle.fits_session.specs.Session.{file_of, marked_of, Asks, AsksPixels, HasPixels, HasStats, IsSeen, IsSoOf};
     ghost use Rattle.fits_session.specs.Work.{value_reads};
@@ -44,11 +44,23 @@ impl<H: Holder + Drop> Session<H> {
 
     /// How many cards HDU h has, END not counted. Refusal 1.
     pub fn card_count(&self, h: usize) -> Result<usize, Refusal>
-        ensures { result ≡ card_count_in (file_of self.now) h }
+        ensures value { result ≡ card_count_in (file_of self.now) h }
+        ensures few { IfOk result (λ count. count < 2 ^ 63) }
     {
         let i = index_of(&self.hdus, h)?;
         let hdu = &self.hdus[i];
         Ok(hdu.card_count())
+    }
+
+    /// The card at a place of HDU h. Refusals 1 and 2. It takes no memory.
+    pub fn card(&mut self, h: usize, place: usize) -> Result<Card, Refusal>
+        ensures value { result ≡ card_in (file_of self.old) h place }
+        ensures asks { Asks h 1 self.old self.new }
+        ensures stays { LieStill self.old.hdus self.new.hdus }
+    {
+        let i = index_of(&self.hdus, h)?;
+        let hdu = &mut self.hdus[i];
+        hdu.card(place).ok_or(Refusal::NoCard)
     }
 
     /// What the mandatory keywords of HDU h say of its data. Refusal 1.

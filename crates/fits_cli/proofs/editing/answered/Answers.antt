@@ -3,6 +3,7 @@ use Rattle.fits_cli.proofs.EditingLemmas.{answered_run, AreToldOf-script, StopsB
 use Rattle.fits_tell.proofs.ExitLemmas.{at_exit}
 use Rattle.fits_cli.proofs.ExitLemmas.{once_or}
 use Rattle.fits_cli.proofs.FrameLemmas.{answers_done, answers_stop, script_none}
+use Rattle.fits_cli.specs.Reports.{read_reports}
 use Rattle.fits_cli.proofs.editing.answered.Goals as goal
 
 -- memory is refused for the file's report
@@ -20,7 +21,7 @@ returns-in_err-flush_answers-clause-err g c steady =
 -- it is
 pub returns-clause-ok : goal.returns-clause-ok
 returns-clause-ok g c steady parts first file after opened quiet =
-    answered_run _ _ _ _ _ c.answer_script-answered.result c.flush_answers.result _ parts c.answer_script-answered.new.runner.standing c.in_ok-before.before.items c.in_ok-flush_answers.was opened quiet
+    answered_run _ _ _ _ _ c.answer_script-answered.result c.flush_answers.result _ parts c.answer_script-answered.new.runner.standing (read_reports c.in_ok-before.before) c.in_ok-flush_answers.was opened quiet
     (λ counts. rw first at (c.in_ok-before.ensures.value (rw c.check.ensures counts)))
     (rw (c.in_ok-before.ensures.left, first) at (c.answer_script-answered.ensures.ok steady)) c.flush_answers.ensures
 

@@ -3,6 +3,7 @@ use Rattle.fits_cli.proofs.EditingLemmas.{RemarksBy-answered, remarks_exit}
 use Rattle.fits_cli.proofs.EndingLemmas.{ends_exit}
 use Rattle.fits_cli.proofs.UnderWayLemmas.{follows_more, steady_before}
 use Rattle.fits_cli.proofs.FrameLemmas.{leaves_answered, leaves_exit, leaves_stopped}
+use Rattle.fits_cli.specs.Reports.{read_reports}
 use Rattle.fits_cli.proofs.editing.run.Goals as goal
 
 pub save_result-requires : goal.save_result-requires
@@ -23,7 +24,7 @@ returns-clause-ends g c steady parts first file after opened quiet =
 
 pub returns-clause-told : goal.returns-clause-told
 returns-clause-told g c steady parts first file after opened quiet =
-    RemarksBy-answered _ _ _ _ c.answered.new.runner.standing c.in_ok-before.before.items c.save_result.result (c.in_ok-before.ensures.ok (steady_before g.H.Holder.whole _ _ c.save_result.ensures.follows steady) parts first file after opened quiet)
+    RemarksBy-answered _ _ _ _ c.answered.new.runner.standing (read_reports c.in_ok-before.before) c.save_result.result (c.in_ok-before.ensures.ok (steady_before g.H.Holder.whole _ _ c.save_result.ensures.follows steady) parts first file after opened quiet)
 
 pub returns-clause-follows : goal.returns-clause-follows
 returns-clause-follows g c = follows_more _ _ _ c.in_ok-before.ensures.follows c.save_result.ensures.follows

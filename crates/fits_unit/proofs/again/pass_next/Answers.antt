@@ -1,4 +1,4 @@
-use Rattle.std.proofs.Common.{◌≡◌, ◌-◌, ◌%◌, ◌++◌, ◌∙◌, length, replicate, arith, ap, refl}
+use Rattle.std.proofs.Common.{◌≡◌, ◌-◌, ◌%◌, length, replicate, arith, ap, refl}
 use Rattle.std.proofs.lemmas.List.{length-append, length-replicate}
 use Rattle.fits_pixels.specs.declared.layout.Layout.{Layout}
 use Rattle.fits_stream.proofs.StreamLemmas.{reads_fails, Reads-none}

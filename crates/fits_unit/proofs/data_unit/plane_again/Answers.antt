@@ -1,4 +1,4 @@
-use Rattle.std.proofs.Common.{rules, ◌≡◌, ◌∙◌, ap, sym, true}
+use Rattle.std.proofs.Common.{◌∙◌, ap, sym}
 use Rattle.fits_sum.specs.Words.{word_total}
 use Rattle.fits_unit.specs.DataUnit.{away_plane, is_passed, passed_blank, Absence}
 use Rattle.fits_unit.proofs.AgainLemmas.{follows_on, load_follows, read_known}
@@ -25,4 +25,4 @@ pub returns-clause-follows : goal.returns-clause-follows
 returns-clause-follows g c = follows_on c.args.it.now.place _ _ _ c.in_ok-bytes.ensures.are
 
 pub returns-clause-total : goal.returns-clause-total
-returns-clause-total g c = λ known. ap word_total c.in-Ok.ensures.bytes ∙ sym c.total.ensures ∙ c.has_another_total-other.ensures.same c.if-other.false known
+returns-clause-total g c = λ known. sym c.total.ensures ∙ c.has_another_total-other.ensures.same c.if-other.false known

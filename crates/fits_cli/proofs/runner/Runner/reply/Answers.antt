@@ -2,9 +2,10 @@ use Rattle.std.proofs.Common.{◌∙◌, rules, sym}
 use Rattle.std.proofs.lemmas.Result.{err_from_is_err_and}
 use Rattle.fits_cli.specs.Answer.{line_answer, line_left, LineNeedsMemory}
 use Rattle.fits_cli.specs.Remark.{remark_by, remark_on}
-use Rattle.fits_session.specs.Marked.{Marked}
+use Rattle.fits_session.specs.Marked.{guarded, Marked}
 use Rattle.fits_session.specs.Session.{marked_of}
 use Rattle.fits_cli.specs.Running.{IsLike, Steady}
+use Rattle.fits_cli.proofs.GuardLemmas.{guarded_like}
 use Rattle.fits_cli.proofs.RunLemmas.{lacks_pixels}
 use Rattle.fits_cli.proofs.UnderWayLemmas.{lie_on, steady_agree, replies_here}
 use Rattle.fits_cli.proofs.runner.Runner.reply.Goals as goal
@@ -65,8 +66,9 @@ returns-in_ok-reply-in-Ok-Said-clause-left g c steady =
 pub returns-in_ok-reply-in-Ok-Said-clause-like : goal.returns-in_ok-reply-in-Ok-Said-clause-like
 unfolding line_answer line_left
 returns-in_ok-reply-in-Ok-Said-clause-like g c =
-    let had : Marked = marked_of c.ready.new.session in
-    let like : IsLike c.args.self.now.standing.marked had = rw (← c.self.view_is) c.ready.ensures.like in
+    let tables = c.self.inside.tables in
+    let had : Marked = guarded tables (marked_of c.ready.new.session) in
+    let like : IsLike c.args.self.now.standing.marked had = rw (← c.self.view_is) (guarded_like tables _ _ c.ready.ensures.like) in
     record { had = had; like = like; text_is = search rules; left = search rules }
 
 pub returns-in-Ok-TooLong-clause-like : goal.returns-in-Ok-TooLong-clause-like

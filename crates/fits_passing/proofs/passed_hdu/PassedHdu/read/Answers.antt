@@ -1,4 +1,4 @@
-use Rattle.std.proofs.Common.{◌≡◌, ◌≤◌, ◌%◌, ◌∙◌, length, ap, arith, subst, sym}
+use Rattle.std.proofs.Common.{◌≡◌, ◌≤◌, ◌∙◌, length, ap, arith, subst, sym}
 use Rattle.fits_stream.proofs.SightLemmas.{takes_fewer}
 use Rattle.fits_rules.proofs.LawLemmas.{shape_primary}
 use Rattle.fits_pixels.specs.Layout.{IsLayout}

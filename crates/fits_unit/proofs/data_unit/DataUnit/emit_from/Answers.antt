@@ -1,4 +1,4 @@
-use Rattle.std.proofs.Common.{rules, ◌≡◌, ◌+◌, ◌/◌, ◌∙◌, ap, sym, subst, take, drop, length, Some}
+use Rattle.std.proofs.Common.{◌+◌, ◌/◌, ◌∙◌, ap, sym, subst}
 use Rattle.std.proofs.lemmas.Result.{err_from_is_err_and}
 use Rattle.fits_stream.specs.Stream.{Prints}
 use Rattle.fits_sum.specs.Words.{word_total}

@@ -1,6 +1,5 @@
-use Rattle.std.proofs.Common.{◌≡◌, ◌∙◌, ap, replicate, length}
+use Rattle.std.proofs.Common.{replicate}
 use Rattle.std.proofs.lemmas.List.{length-replicate}
-use Rattle.fits_unit.specs.Unread.{UnreadState}
 use Rattle.fits_unit.proofs.unread_unit.UnreadUnit.layout.Goals as goal
 
 -- as many zeros as there are bytes

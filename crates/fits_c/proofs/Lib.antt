@@ -1,0 +1,9 @@
+pub mod AxisLemmas
+pub mod GivenLemmas
+pub mod LineLemmas
+pub mod OutcomeLemmas
+pub mod RectLemmas
+pub mod RowsLemmas
+pub mod SessionLemmas
+pub mod WideLemmas
+pub mod WriteLemmas

@@ -1,0 +1,4 @@
+use Rattle.fits_c.proofs.pixel_calls.fitsed_rect_u64.Goals as goal
+
+pub returns : goal.returns
+returns c = (_, c.take-live.ensures.given, c.rect-number.new.self, c.of.ensures, rw c.deref_mut.ensures.value at c.rect-number.ensures)

@@ -1,0 +1,4 @@
+use Rattle.fits_c.proofs.session_calls.fitsed_line.Goals as goal
+
+pub returns : goal.returns
+returns c = (_, c.take-live.ensures.given, c.line-number.new.self, c.of.ensures, rw c.deref_mut.ensures.value at c.line-number.ensures)

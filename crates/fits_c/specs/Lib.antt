@@ -1,0 +1,13 @@
+pub mod Flags
+pub mod Given
+pub mod Lines
+pub mod Message
+pub mod Outcome
+pub mod Owned
+pub mod Pixels
+pub mod Queries
+pub mod Rows
+pub mod Runs
+pub mod Session
+pub mod Values
+pub mod Wide

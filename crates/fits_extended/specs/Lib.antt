@@ -1,0 +1,4 @@
+pub mod Same
+pub mod Saying
+pub mod Stands
+pub mod Words

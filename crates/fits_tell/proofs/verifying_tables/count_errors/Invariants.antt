@@ -1,9 +1,0 @@
-use Rattle.std.proofs.Common.{◌≡◌, ◌≤◌, take}
-use Rattle.fits_tell.specs.TableReport.{listed_errors}
-use Rattle.fits_tell.proofs.verifying_tables.count_errors.Given as goal
-
-abbrev pub invariant-loop-it : goal.invariant-loop-it
-invariant-loop-it l = record {
-  value : l.errors ≡ listed_errors (take l.it-index l.report);
-  within : l.errors ≤ l.it-index;
-}

@@ -1,5 +1,0 @@
-use Rattle.fits_tell.proofs.TableReportLemmas.{others_warn}
-use Rattle.fits_tell.proofs.verifying_tables.push_table_closing_line.Goals as goal
-
-pub returns : goal.returns
-returns c = rw (others_warn c.args.report.now _ c.count_errors-errors.ensures.value, c.count_errors-errors.ensures.value) at c.push_counts.ensures
