@@ -60,6 +60,7 @@ outcome_same : (before : Standing) (command : Command) (outcome : Result Done Re
 outcome_same before command (Ok done) = refl
 outcome_same before command (Err why) = refl
 
+-- so it is after any reading of one
 same_after : (before : Standing) (reading : LineReading) → (line_left before reading).extended ≡ before.extended
 unfolding line_left
 same_after before TooLong = refl

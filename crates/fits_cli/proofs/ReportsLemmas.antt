@@ -27,6 +27,7 @@ unfolding is_new_table
 none_listed before after [] = refl
 none_listed before after (it ∷ report) = none_listed before after report
 
+-- so a report has no new one at it
 pub tables_quiet : (before after : List TableProblem) → new_tables Quiet before after ≡ []
 unfolding new_tables
 tables_quiet before after = none_listed before after after
@@ -35,9 +36,11 @@ tables_quiet before after = none_listed before after after
 pub quiet_lines : (before after : Reports) → [] ≡ new_lines Quiet before after
 quiet_lines before after = rw (none_quiet before.problems after.problems, tables_quiet before.tables after.tables) refl
 
+-- no error is new
 pub quiet_errors : (before after : Reports) → 0 ≡ new_error_count Quiet before after
 quiet_errors before after = rw (none_quiet before.problems after.problems, tables_quiet before.tables after.tables) refl
 
+-- nor is a warning
 pub quiet_warnings : (before after : Reports) → 0 ≡ new_warning_count Quiet before after
 quiet_warnings before after = rw (none_quiet before.problems after.problems, tables_quiet before.tables after.tables) refl
 

@@ -148,6 +148,7 @@ may_stand-long : (line : List ℕ) → LINE_LIMIT < length line → may_stand li
 unfolding may_stand
 may_stand-long line long = rw (over_limit (length line) LINE_LIMIT long) refl
 
+-- a line that is too long stands for itself
 stands-long : (s : Standing) (line : List ℕ) → LINE_LIMIT < length line → line_stands s line ≡ Ok (line ∷ [])
 unfolding stands_for
 stands-long s line long = of s.extended (may_stand line) (may_stand-long line long)
@@ -161,10 +162,12 @@ answer_to-long : (s : Standing) (line : List ℕ) → LINE_LIMIT < length line �
 unfolding answer_to
 answer_to-long s line long = ap (answer_of s) (stands-long s line long) ∙ ap plain_answer (done_last-one s line) ∙ ap (line_answer s) (reading_of-long line long)
 
+-- what it leaves
 left_after-long : (s : Standing) (line : List ℕ) → LINE_LIMIT < length line → left_after s line ≡ line_left s TooLong
 unfolding left_after
 left_after-long s line long = ap (left_of s) (stands-long s line long) ∙ ap plain_left (done_last-one s line) ∙ ap (line_left s) (reading_of-long line long)
 
+-- what is remarked of it
 remark_to-long : (s : Standing) (line : List ℕ) → LINE_LIMIT < length line → remark_to s line ≡ remark_line s.line (Some long_text)
 unfolding remark_to line_remark remark_on
 remark_to-long s line long = ap (remark_of s) (stands-long s line long) ∙ ap plain_remark (done_last-one s line) ∙ (rw (reading_of-long line long) refl)
@@ -198,6 +201,7 @@ no_memory-long s line long (inr needs) =
     let one : PlainNeedsMemory s line = at_one PlainNeedsMemory s line (rw (stands-long s line long) at needs) in
     rw (reading_of-long line long) at one
 
+-- it wants no pixels
 no_pixels-long : (s : Standing) (line : List ℕ) → LINE_LIMIT < length line → WantsPixelsFor s line → ⊥
 unfolding WantsPixelsFor WantsPixels
 no_pixels-long s line long wants =

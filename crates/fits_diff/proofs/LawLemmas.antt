@@ -24,6 +24,7 @@ first_empty : {X : Type 0} (xs ys : List X) → xs ++ ys ≡ [] → xs ≡ []
 first_empty [] ys e = refl
 first_empty {X = X} (x ∷ xs) ys e = absurd (omega (arith, ap (λ (t : List X). length t) e))
 
+-- nor is the second of two texts that make none
 second_empty : {X : Type 0} (xs ys : List X) → xs ++ ys ≡ [] → ys ≡ []
 second_empty [] ys e = e
 second_empty {X = X} (x ∷ xs) ys e = absurd (omega (arith, ap (λ (t : List X). length t) e))
@@ -41,6 +42,7 @@ numbered-empty f n (x ∷ xs) some e = absurd (some n x (first_empty (f n x) (nu
 minus_some : (h k : ℕ) (card : List ℕ) → signed_line (codes "- ") h k card ≡ [] → ⊥
 minus_some h k card e = absurd (omega (arith, ap (λ (t : List ℕ). length t) e))
 
+-- nor is the line of a card of the second file
 plus_some : (h k : ℕ) (card : List ℕ) → signed_line (codes "+ ") h k card ≡ [] → ⊥
 plus_some h k card e = absurd (omega (arith, ap (λ (t : List ℕ). length t) e))
 
@@ -55,6 +57,7 @@ none_between h from to cards ordered within e =
     let none : to - from ≡ 0 = none_taken (to - from) (drop from cards) (omega (arith, size, ordered, within)) (numbered-empty (signed_line (codes "- ") h) (from + 1) (take (to - from) (drop from cards)) (minus_some h) e) in
     omega (arith, none, ordered)
 
+-- the same of cards of the second file
 none_between_too : (h from to : ℕ) (cards : List (List ℕ)) → from ≤ to → to ≤ length cards → lines_between (codes "+ ") h cards from to ≡ [] → to ≡ from
 none_between_too h from to cards ordered within e =
     let size : length (drop from cards) ≡ length cards - from = length-drop from cards in

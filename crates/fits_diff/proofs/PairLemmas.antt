@@ -71,6 +71,7 @@ both_so false b e = absurd (false≢true e)
 first_taken : (h : ℕ) (primary : Bool) (a a' b b' : Supply) (text new : List ℕ) (p : TakesHdus h primary a a' b b' text new) → TakesHdu (is_it p.hdu) primary a a'
 first_taken h primary a a' b b' text new p = record { hdu = p.hdu; kept = refl; whole = p.whole; taken = p.taken }
 
+-- and from the second file
 second_taken : (h : ℕ) (primary : Bool) (a a' b b' : Supply) (text new : List ℕ) (p : TakesHdus h primary a a' b b' text new) → TakesHdu (is_it p.other) primary b b'
 second_taken h primary a a' b b' text new p = record { hdu = p.other; kept = refl; whole = p.whole_other; taken = p.taken_other }
 

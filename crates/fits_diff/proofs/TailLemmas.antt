@@ -82,6 +82,7 @@ tails_all a a' b b' same p alike = record {
 apart_by_length : (xs ys : List ℕ) → length xs < length ys → bytes_eq xs ys ≡ false
 apart_by_length xs ys less = not_true (bytes_eq xs ys) (λ e. absurd (omega (arith, less, ap (λ (t : List ℕ). length t) ((bytes_eq-Decides xs ys).0 e))))
 
+-- the same where the second is shorter
 apart_by_length_too : (xs ys : List ℕ) → length ys < length xs → bytes_eq xs ys ≡ false
 apart_by_length_too xs ys less = not_true (bytes_eq xs ys) (λ e. absurd (omega (arith, less, ap (λ (t : List ℕ). length t) ((bytes_eq-Decides xs ys).0 e))))
 

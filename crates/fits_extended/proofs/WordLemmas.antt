@@ -42,6 +42,7 @@ after_comma-first (b ∷ bs) rest none =
 pub before_comma-cut : (text part rest : List ℕ) → HasNo 44 part → text ≡ part ++ 44 ∷ rest → before_comma text ≡ part
 before_comma-cut text part rest none e = rw e (before_comma-first part rest none)
 
+-- what follows the first comma
 pub after_comma-cut : (text part rest : List ℕ) → HasNo 44 part → text ≡ part ++ 44 ∷ rest → after_comma text ≡ rest
 after_comma-cut text part rest none e = rw e (after_comma-first part rest none)
 

@@ -38,6 +38,7 @@ text_plain standing line (Ok (plain ∷ [])) is one = ap (answer_of standing) is
 text_plain standing line (Ok (plain ∷ (other ∷ others))) is one = absurd one
 text_plain standing line (Err why) is one = absurd one
 
+-- and leaves what that leaves
 stands_plain : (standing : Standing) (line : List ℕ) (stands : Result (List (List ℕ)) Unmet) → line_stands standing line ≡ stands → IsOne stands → unextended (left_after standing line) ≡ left_after (unextended standing) (plain_or line stands)
 unfolding left_after done_last
 stands_plain standing line (Ok []) is one = absurd one

@@ -77,6 +77,7 @@ table_stays primary kind axes before after kept =
           number_stayed (column_start before n) (column_start after n) start (subst (λ k. keeps_start k before after n ≡ true) is_ascii one) said;
     }
 
+-- a change that keeps columns leaves each table what it is
 pub columns_stay : ColumnsStay
 unfolding keeps_columns
 columns_stay primary kind shape before after is shaped kept =
