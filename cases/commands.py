@@ -4,9 +4,11 @@ import glob
 import os
 import pathlib
 import pty
+import re
 import subprocess
 import tempfile
 
+from extended import SUBJECT as CALLED
 from fits import MANDATORY, P0, PIXEL, THREE_PIXELS, changed, file
 from program import Ran, differences
 from sums import CHANGED, STAMPED, WRONG_SUM
@@ -99,6 +101,9 @@ TOLD = with_cards("OBJECT  = 'M31     '")
 # A folder with files, in it and below it, and what is none of a night's files.
 NIGHT = {"night/b.fits.fz": EMPTY, "night/a.fits": EMPTY, "night/notes.txt": b"", "night/a/z.fts": STAMP, "night/a/y.fit": EMPTY, "b.txt": EMPTY}
 
+# An extension whose name goes on in a second card, after a primary HDU of that name.
+GOES_ON = file(([(P0.replace("|END", "|EXTNAME = 'LONG'|END"), 0), (f"{EXTENSION}|EXTNAME = 'LO&'|CONTINUE  'NG'|EXTVER  = 'x'|END", 0)], ""))
+
 # A line that makes such an error.
 UNDATED = "set 1 DATE '2024-02-30'"
 
@@ -154,6 +159,9 @@ ROWS = [
     (["keys", "-k", "A", "a.fits", "none.fits", "b.fits"], {"a.fits": b"no", "b.fits": EMPTY}, "", 3, "file\tA\nb.fits\t\n", "fitsed: a.fits: open refused O1 NotFits\nfitsed: none.fits: read failed\n"),
     (["keys", "-k", "A*", "a.fits"], {"a.fits": EMPTY}, "", 2, "", "fitsed: not a keyword name: A*\n"),
     (["keys", "-k", "LONGNAMES", "a.fits"], {"a.fits": EMPTY}, "", 2, "", "fitsed: not a keyword name: LONGNAMES\n"),
+    (["keys", "-u", "@SCI,2", "-k", "BUNIT", "-k", "EXTVER", "a.fits", "b.fits"], {"a.fits": CALLED, "b.fits": EMPTY}, "", 0, "file\tBUNIT\tEXTVER\na.fits\tadu\t2\nb.fits\t\t\n", ""),
+    (["keys", "-u", "@NONE", "-k", "EXTVER", "a.fits"], {"a.fits": CALLED}, "", 0, "file\tEXTVER\na.fits\t\n", ""),
+    (["keys", "-u", "@", "-k", "A", "a.fits"], {"a.fits": EMPTY}, "", 2, "", "fitsed: not the number of an HDU: @\n"),
     (["keys", "-u", "x", "-k", "A", "a.fits"], {"a.fits": EMPTY}, "", 2, "", "fitsed: not the number of an HDU: x\n"),
     (["keys", "a.fits"], {"a.fits": EMPTY}, "", 2, "", None),
     # cards
@@ -173,6 +181,22 @@ ROWS = [
     (["cards", "a.fits"], {"a.fits": SHAPELESS}, "", 2, FIRST + "2 1 XTENSION= 'IMAGE   '\n2 2 BITPIX  = 9\n", "fitsed: open refused O3 BadShape hdu 2 card 2\n"),
     (["cards", "a.fits", "b.fits"], {"a.fits": b"no", "b.fits": EMPTY}, "", 2, FIRST.replace("1 ", "b.fits:1 ", 1).replace("\n1 ", "\nb.fits:1 "), "fitsed: a.fits: open refused O1 NotFits\n"),
     (["cards", "-u", "x", "a.fits"], {"a.fits": EMPTY}, "", 2, "", "fitsed: not the number of an HDU: x\n"),
+    # the first extension of a name, and of a version: 1 where EXTVER isn't there, or is no number
+    (["cards", "-u", "@SCI", "-k", "EXTNAME", "a.fits"], {"a.fits": CALLED}, "", 0, "2 7 EXTNAME = 'SCI'\n", ""),
+    (["cards", "--hdu", "@SCI,2", "-k", "EXTNAME", "a.fits"], {"a.fits": CALLED}, "", 0, "4 7 EXTNAME = 'SCI     '\n", ""),
+    (["cards", "-u", "@SCI,01", "-k", "EXTNAME", "a.fits"], {"a.fits": CALLED}, "", 0, "2 7 EXTNAME = 'SCI'\n", ""),
+    (["cards", "-u", "@a,b", "-k", "EXTVER", "a.fits"], {"a.fits": CALLED}, "", 0, "6 8 EXTVER  = 3.0\n", ""),
+    (["cards", "-H", "-u", "@ERR", "-u", "6", "-k", "EXTVER", "a.fits"], {"a.fits": CALLED}, "", 0, "a.fits:3 8 EXTVER  = 1\na.fits:6 8 EXTVER  = 3.0\n", ""),
+    (["cards", "-u", "@LONG", "-k", "EXTNAME", "a.fits"], {"a.fits": GOES_ON}, "", 0, "2 6 EXTNAME = 'LO&'\n2 7 CONTINUE  'NG'\n", ""),
+    (["cards", "-u", "@LONG,1", "-k", "EXTVER", "a.fits"], {"a.fits": GOES_ON}, "", 0, "2 8 EXTVER  = 'x'\n", ""),
+    # none is called so
+    (["cards", "-u", "@SCI,3", "a.fits"], {"a.fits": CALLED}, "", 1, "", ""),
+    (["cards", "-u", "@sci", "a.fits"], {"a.fits": CALLED}, "", 1, "", ""),
+    (["cards", "-u", "@a,b,3", "a.fits"], {"a.fits": CALLED}, "", 1, "", ""),
+    (["cards", "-u", "@LO", "a.fits"], {"a.fits": GOES_ON}, "", 1, "", ""),
+    (["cards", "-u", "@NONE", "-u", "3", "-k", "EXTVER", "a.fits"], {"a.fits": CALLED}, "", 0, "3 8 EXTVER  = 1\n", ""),
+    (["cards", "-u", "@SCI", "-k", "BUNIT", "a.fits", "b.fits"], {"a.fits": CALLED, "b.fits": EMPTY}, "", 1, "a.fits:2 8 BUNIT   = 'adu     '\n", ""),
+    (["cards", "-u", "@", "a.fits"], {"a.fits": EMPTY}, "", 2, "", "fitsed: not the number of an HDU: @\n"),
     (["cards", "-k", "NINECHARS", "a.fits"], {"a.fits": EMPTY}, "", 2, "", "fitsed: not a keyword name: NINECHARS: more than 8 characters\n"),
     # one of few characters that has many bytes
     (["cards", "-k", "\u00c4\u00c4\u00c4\u00c4\u00c4", "a.fits"], {"a.fits": EMPTY}, "", 2, "", "fitsed: not a keyword name: \u00c4\u00c4\u00c4\u00c4\u00c4: more than 8 bytes\n"),
@@ -213,6 +237,8 @@ ROWS = [
     (["cards", "-L", "-k", "OBJECT", "a.fits", "b.fits", "c.fits"], {"a.fits": TOLD, "b.fits": EMPTY, "c.fits": b"no"}, "", 2, "b.fits\n", "fitsed: c.fits: open refused O1 NotFits\n"),
     (["cards", "-L0", "-k", "OBJECT", "-k", "BITPIX", "a.fits", "b.fits"], {"a.fits": TOLD, "b.fits": EMPTY}, "", 1, "b.fits\0", ""),
     (["cards", "--files-without", "-k", "BITPIX", "-u", "2", "a.fits", "b.fits"], {"a.fits": IMAGES, "b.fits": EMPTY}, "", 1, "b.fits\n", ""),
+    (["cards", "-L", "-u", "@SCI,2", "-k", "BUNIT", "-k", "EXTVER", "a.fits", "b.fits"], {"a.fits": CALLED, "b.fits": EMPTY}, "", 1, "b.fits\n", ""),
+    (["cards", "-L", "-u", "@ERR", "-k", "OBJECT", "a.fits"], {"a.fits": CALLED}, "", 1, "a.fits\n", ""),
     (["cards", "-L", "-k", "COMMENT", "a.fits"], {"a.fits": ODD}, "", 0, "", ""),
     (["cards", "-L", "a.fits"], {"a.fits": EMPTY}, "", 2, "", None),
     (["verify", "-l0", "a.fits", "b.fits"], {"a.fits": DATED, "b.fits": EMPTY}, "", 1, "a.fits\0", ""),
@@ -431,7 +457,29 @@ EDITS = [
 ]
 
 
+# With --progress: the words, the files, the status, what is printed, the names of the files, and what else is reported.
+PROGRESS = [
+    (["list", "--progress", "a.fits", "none.fits", "b.fits"], {"a.fits": EMPTY, "b.fits": EMPTY}, 3, None, ["a.fits", "none.fits", "b.fits"], "fitsed: none.fits: read failed\n"),
+    (["cards", "--progress", "-k", "NAXIS", "a.fits"], {"a.fits": EMPTY}, 0, "1 3 NAXIS   =                    0\n", ["a.fits"], ""),
+    (["keys", "--progress", "-k", "NAXIS", "a.fits", "b.fits"], {"a.fits": EMPTY, "b.fits": EMPTY}, 0, "file\tNAXIS\na.fits\t0\nb.fits\t0\n", ["a.fits", "b.fits"], ""),
+    (["sum", "--progress", "-r", "night"], NIGHT, 0, None, ["night/a.fits", "night/a/y.fit", "night/a/z.fts", "night/b.fits.fz"], ""),
+    (["verify", "-l", "--progress", "a.fits", "b.fits"], {"a.fits": DATED, "b.fits": EMPTY}, 1, "a.fits\n", ["a.fits", "b.fits"], ""),
+    (["cards", "-L", "--progress", "-k", "OBJECT", "a.fits", "b.fits"], {"a.fits": TOLD, "b.fits": EMPTY}, 1, "b.fits\n", ["a.fits", "b.fits"], ""),
+    (["ask", "--progress", "-e", "get 1 NAXIS", "a.fits", "b.fits"], {"a.fits": EMPTY, "b.fits": EMPTY}, 0, "a.fits:integer 0\nb.fits:integer 0\n", ["a.fits", "b.fits"], ""),
+    (["edit", "-i", "--progress", "--done", "-e", "get 1 NAXIS", "a.fits", "b.fits"], {"a.fits": EMPTY, "b.fits": EMPTY}, 0, "a.fits:integer 0\nb.fits:integer 0\n", ["a.fits", "b.fits"], "a.fits\nb.fits\n"),
+    # one whose name isn't UTF-8 counts, and isn't named
+    (["stat", "--progress", ODD_NAME, "a.fits"], {ODD_NAME: EMPTY, "a.fits": EMPTY}, 2, "a.fits:1 -\n", [None, "a.fits"], "fitsed: argument 3 is not UTF-8: na\\xefve.fits\n"),
+]
+ROWS += [
+    (["edit", "--progress", "-e", "off", "a.fits", "b.fits"], {"a.fits": EMPTY}, "", 2, "", None),
+    (["diff", "--progress", "a.fits", "b.fits"], {"a.fits": EMPTY, "b.fits": EMPTY}, "", 2, "", None),
+    (["ask", "--progress", "a.fits"], {"a.fits": EMPTY}, "get 1 NAXIS\n", 0, "integer 0\n", ""),
+]
+
+
 def cases():
+    for words, files, status, printed, names, others in PROGRESS:
+        yield f"{' '.join(words)}, how far it is", tells_progress, words, files, status, printed, names, others
     for words, files, script, status, printed, reported in ROWS:
         yield " ".join(words), run, words, files, script, status, printed, reported
     for words, files, status, after in EDITS:
@@ -463,6 +511,19 @@ def run(program, words, files, script, status, printed, reported):
     yield from differences(ran, **wanted)
     if after != files:
         yield f"the files are {sorted(after)}, or have other bytes"
+
+
+def tells_progress(program, words, files, status, printed, names, others):
+    """Where the first of these files isn't told as it is begun, or anything is told but later ones, in their order, and these others."""
+    ran, _ = program.over(words, files, b"")
+    yield from differences(ran, status=status, **({} if printed is None else {"printed": printed.encode()}))
+    lines = ran.reported.decode().splitlines(keepends=True)
+    told = [line for line in lines if re.match(r"[0-9]+/[0-9]+ ", line)]
+    all_names = [f"{number}/{len(names)} {name}\n" for number, name in enumerate(names, 1) if name]
+    if told[:1] != all_names[:1] or [line for line in all_names if line in told] != told:
+        yield f"it tells {told}"
+    if "".join(line for line in lines if line not in told) != others:
+        yield f"it reports {lines}"
 
 
 def changes(program, words, files, status, wanted):

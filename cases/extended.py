@@ -1,6 +1,6 @@
 """Extended lines (`-x`), each beside the plain line that stands for it, written by hand: both print, save and end alike. Without
 `-x` each is not a command. Lines that want something of the file, and names that no extension has, with what they print."""
-from fits import MANDATORY, PIXEL, file
+from fits import MANDATORY, PIXEL, file, header
 from program import differences
 
 # A file with keywords of all types, an array whose name continues, and extensions of one name and of another.
@@ -62,6 +62,7 @@ PAIRS = [
     ("note 1 ABSENT c", "get 1 ABSENT"),
     ("note 1 BROKEN c", "get 1 BROKEN"),
     ("note 1 EXPTIME \x7f", "set 1 EXPTIME 1.5D3 / \x7f"),
+    (f"note 1 OBJECT {'c' * 60}\x7f", f"set 1 OBJECT 'M31' / {'c' * 60}\x7f"),
     # another name, with all else as it stands
     ("ren 1 OBJECT TARGET", "put 1 5 TARGET  = 'M31     '           / the galaxy"),
     ("ren 1 BROKEN WHOLE", "put 1 12 WHOLE   = 1 2"),
@@ -136,6 +137,53 @@ SEVERAL = [
     (f"hist 6 {W70} {W70} {W70}", [f"ins 6 10 HISTORY {W70}", f"ins 6 11 HISTORY {W70}", f"ins 6 12 HISTORY {W70}"]),
 ]
 
+# Comments and strings of so many characters.
+def comment(count):
+    return ("as it was seen through thin clouds " * 3)[: count - 1] + "."
+
+
+def letters(count):
+    return ("abcdefghijklmnopqrstuvwxyz" * 8)[:count]
+
+
+C60 = comment(60)
+
+# A comment that has no room after a string stands on a card of its own: lines, and plain ones that leave the same cards.
+OWN_CARD = [
+    (f"note 1 OBJECT {comment(47)}", [f"put 1 5 OBJECT  = 'M31     '           / {comment(47)}"]),
+    (f"note 1 OBJECT {comment(48)}", ["put 1 5 OBJECT  = 'M31&'", f"ins 1 6 CONTINUE  '' / {comment(48)}"]),
+    (f"note 1 OBJECT {comment(65)}", ["put 1 5 OBJECT  = 'M31&'", f"ins 1 6 CONTINUE  '' / {comment(65)}"]),
+    (f"note 1 BARE {C60}", ["put 1 10 BARE    = 'it''s&'", f"ins 1 11 CONTINUE  '' / {C60}"]),
+    (f"note 1 LONG {comment(30)}", [f"put 1 15 CONTINUE  '{'b' * 20}' / {comment(30)}"]),
+    (f"note 1 LONG {C60}", [f"put 1 15 CONTINUE  '{'b' * 20}&'", f"ins 1 16 CONTINUE  '' / {C60}"]),
+    (f"note @ERR BUNIT {C60}", ["put 3 9 BUNIT   = 'adu&'", f"ins 3 10 CONTINUE  '' / {C60}"]),
+    (f"val 1 LONG 'short' / {C60}", ["put 1 14 LONG    = 'short&'", f"put 1 15 CONTINUE  '' / {C60}"]),
+    (f"val 1 LONG '' /{C60}", ["put 1 14 LONG    = '&'", f"put 1 15 CONTINUE  '' /{C60}"]),
+    (f"val 1 OBJECT '{letters(55)}'", [f"put 1 5 OBJECT  = '{letters(55)}' / the galaxy"]),
+    (f"val 1 OBJECT '{letters(56)}'", [f"put 1 5 OBJECT  = '{letters(56)}&'", "ins 1 6 CONTINUE  '' / the galaxy"]),
+    (f"val 1 OBJECT '{letters(67)}'", [f"put 1 5 OBJECT  = '{letters(67)}&'", "ins 1 6 CONTINUE  '' / the galaxy"]),
+    (f"val 1 OBJECT '{letters(68)}'", [f"put 1 5 OBJECT  = '{letters(67)}&'", f"ins 1 6 CONTINUE  '{letters(68)[67]}' / the galaxy"]),
+    (f"val 1 OBJECT '{letters(66)}'''", [f"put 1 5 OBJECT  = '{letters(66)}&'", "ins 1 6 CONTINUE  '''' / the galaxy"]),
+    (f"val 1 OBJECT '{letters(68)}' /{comment(65)}", [f"put 1 5 OBJECT  = '{letters(67)}&'", f"ins 1 6 CONTINUE  '{letters(68)[67]}' /{comment(65)}"]),
+    (f"val 1 OBJECT '{letters(134)}' / {C60}", [
+        f"put 1 5 OBJECT  = '{letters(67)}&'", f"ins 1 6 CONTINUE  '{letters(134)[67:]}&'", f"ins 1 7 CONTINUE  '' / {C60}",
+    ]),
+    (f"val 1 OBJECT '{letters(135)}'", [
+        f"put 1 5 OBJECT  = '{letters(67)}&'", f"ins 1 6 CONTINUE  '{letters(134)[67:]}&'", f"ins 1 7 CONTINUE  '{letters(135)[134]}' / the galaxy",
+    ]),
+]
+
+# Where it has no room there either, or may not stand there, the line is refused as before.
+NO_CARD = [
+    (f"note 1 OBJECT {comment(66)}", "8 BadValue"),
+    (f"note 1 COUNT {C60}", "8 BadValue"),
+    (f"note 1 CENTRE {C60}", "8 BadValue"),
+    (f"note 1 READY {C60}", "8 BadValue"),
+    (f"val 1 OBJECT '{letters(68)}' /{comment(66)}", "8 BadValue"),
+    (f"val 1 OBJECT '{letters(66)}&'", "8 BadValue"),
+    (f"note 2 XTENSION {C60}", "6 Shape"),
+]
+
 # Lines that stand for several of which one is refused: those before it are done, and it is refused.
 REFUSED = [
     ("hist 9 a line", [], "1 NoHdu"),
@@ -172,7 +220,28 @@ EACH_REFUSED = [
 ]
 
 # Lines that no HDU's number is left out of.
-NOT_EACH = ["get * OBJECT", "stat *", "rm *", "sum *", "pos * OBJECT", "kept *", "new * u8 2", "mov * 5 6", "fill * 1:1 0", "set ** X 1", "hist **", "set 1* X 1", "off *"]
+NOT_EACH = ["rm *", "new * u8 2", "mov * 5 6", "fill * 1:1 0", "set ** X 1", "hist **", "set 1* X 1", "off *", "rep *", "get ** BITPIX", "get 1* BITPIX"]
+
+# Queries of each HDU, and what they print: the number of each HDU that answers, and its answer.
+ASKED = [
+    ("get * EXTNAME", "2 string 'SCI'\n3 string 'ERR'\n4 string 'SCI'\n5 string 'SCI'\n6 string 'a,b'\n"),
+    ("get * EXTVER", "3 integer 1\n4 integer 2\n5 integer 2\n6 real 3.0\n"),
+    ("get * OBJECT", "1 string 'M31' / the galaxy\n"),
+    ("pos * BITPIX", "".join(f"{h} 2\n" for h in range(1, 7))),
+    ("pos * BUNIT", "2 8\n3 9\n4 9\n5 9\n6 9\n"),
+    ("stat *", "".join(f"{h} defined 1 blank 0 min 1 max 1 sum 1\n" for h in range(2, 7))),
+    ("rect * 1:1", "".join(f"{h} 1\n" for h in range(2, 7))),
+    ("kept *", "".join(f"{h} no\n" for h in range(1, 7))),
+]
+
+# Queries that each HDU refuses: the line is refused as the first one does.
+ASKED_IN_VAIN = [
+    ("get * ABSENT", "refused 3 NoKey"),
+    ("pos * ABSENT", "refused 3 NoKey"),
+    ("get * lower", "refused 3 NoKey"),
+    ("get *", "not a command"),
+    ("rect * 1:9", "refused 9 NotImage"),
+]
 
 # Extended lines that aren't done, since the file isn't as they want it, and what they print.
 UNMET = [
@@ -190,6 +259,27 @@ UNMET = [
     ("lack 1 HISTORY", "17 Other"),
     ("ren 1 OBJECT COUNT", "16 Exists"),
     ("ren 1 OBJECT OBJECT", "16 Exists"),
+]
+
+BIG, Z300 = "1" + "0" * 60, "0" * 300
+
+# Numbers that are the same, and numbers that aren't: each in its turn is that of a card, if it has room there, and the one that is wanted.
+SAME = [
+    ("1.50", "1.5D0"), ("5", "5.0"), ("5", "5."), ("5", "+005"), ("0.5", "5E-1"), ("0.5", ".5"), ("0.5", "0.50"), ("0.5", "5D-1"),
+    ("0.5", f"0.5{Z300}"), ("0.5", f"{Z300}.5"), ("-0.5", "-50.0E-002"),
+    ("1E400", "10E399"), ("1E400", "0.01E402"), ("1E-3", "0.001"), ("1E3", "1000"), ("1E3", f"1E+{Z300}3"), ("100E-2", "1"),
+    ("0.0", "-0"), ("0E5", "-0.0"), ("0", f"0E-{BIG}"), ("-.0", f"000E{Z300}9"),
+    ("123456789012345678901234567890", "1.2345678901234567890123456789E29"),
+    ("9223372036854775808", "9.223372036854775808D18"), ("-9223372036854775809", "-9223372036854775809.0"),
+    (f"1E{BIG}", f"10E{'9' * 60}"), (f"1E{BIG}", f"0.1E{BIG[:-1]}1"), (f"1E-{BIG}", f".1E-{'9' * 60}"), (f"12.5E-{BIG}", f"125E-{BIG[:-1]}1"),
+    ("1", f"1{Z300}E-300"), ("7" * 60, f"0.{'7' * 60}{Z300}E60"),
+]
+OTHER = [
+    ("1.50", "1.51"), ("1.50", "-1.5D0"), ("5", "50"), ("5", "4"), ("0.5", "5E-2"), ("0.5", "5E0"), ("0.5", f"0.5{Z300}1"), ("0.5", "0.05"),
+    ("1E400", "10E398"), ("1E400", "10E400"), ("1E400", "1E-400"), ("1E-3", "0.0011"), ("1E-3", "-0.001"), ("0.0", "1E-400"), ("0", f"1E-{BIG}"),
+    ("123456789012345678901234567890", "1.2345678901234567890123456788E29"), ("123456789012345678901234567890", "123456789012345678901234567891"),
+    (f"1E{BIG}", f"10E{BIG}"), (f"1E{BIG}", f"1E{'9' * 60}"), (f"1E{BIG}", f"1E-{BIG}"), (f"1E-{BIG}", f".1E-{BIG[:-1]}1"),
+    ("19", "10"), ("9.9", "10"), ("99", "100"), ("1", "'1'"), ("1", "T"),
 ]
 
 # Lines that aren't commands, extended or not.
@@ -232,16 +322,29 @@ def cases():
         yield f"{line}", unmet, line, why
     for line, plains in SEVERAL:
         yield f"{line}", several, line, plains, b"", 0
+    for line, plains in OWN_CARD:
+        yield f"{line}", several, line, plains, b"", 0
+    for line, why in NO_CARD:
+        yield f"{line}", several, line, [], f"line 1: refused {why}\n".encode(), 1
+    yield "a comment on a card of its own is read as before", read_again
+    yield "a sum has no comment on a card of its own", sums_stay
+    yield "an HDU that is kept stamped has right sums", stamped
     for line, plains, why in REFUSED:
         yield f"{line}", several, line, plains, f"line 1: refused {why}\n".encode(), 1
     for line, plains in EACH:
         yield f"{line}", each, line, plains
     for line, why in EACH_REFUSED:
         yield f"{line}", kept_back, line, f"refused {why}"
+    for line, printed in ASKED:
+        yield f"{line}", queries, line, printed.encode(), 0
+    for line, why in ASKED_IN_VAIN:
+        yield f"{line}", queries, line, f"line 1: {why}\n".encode(), 1
     for line in NOT_EACH:
         yield f"{line}", kept_back, line, "not a command"
     for line in NEITHER:
         yield f"{line}", neither, line
+    for a, b, so in [(*pair, True) for pair in SAME] + [(*pair, False) for pair in OTHER]:
+        yield f"{a} is {'' if so else 'not '}{b}", compared, a, b, so
     yield "a guard keeps a file from being saved", guarded
     yield "each line stands for another of the file as it is then", in_turn
 
@@ -265,6 +368,33 @@ def several(program, line, plains, printed, status):
     yield from none(program, line, ["edit"])
 
 
+def read_again(program):
+    """Where a keyword doesn't say the string and the comment that it was given, or takes other cards along than its own."""
+    script = (
+        f"note 1 OBJECT {C60}\nget 1 OBJECT\nval 1 OBJECT '{letters(68)}'\nget 1 OBJECT\nval 1 OBJECT 'M31'\n"
+        "note 1 OBJECT the galaxy\nget 1 OBJECT\n"
+    )
+    printed = f"string 'M31' / {C60}\nstring '{letters(68)}' / {C60}\nstring 'M31' / the galaxy\n".encode()
+    ran = program.edit(SUBJECT, script.encode(), ["edit", "-x"])
+    yield from differences(ran, status=0, printed=printed, reported=b"", saved=SUBJECT)
+
+
+def sums_stay(program):
+    """Where a sum gets its comment on a card of its own, which a stamp would take away."""
+    for name in ("DATASUM", "CHECKSUM"):
+        subject = header(f"{MANDATORY}|{name.ljust(8)}= '0'|END")
+        ran = program.edit(subject, f"note 1 {name} {C60}".encode(), ["edit", "-x"])
+        yield from differences(ran, status=1, printed=b"line 1: refused 8 BadValue\n", reported=b"", saved=subject)
+
+
+def stamped(program):
+    """Where an HDU that is kept stamped isn't left as plain lines leave it."""
+    for line, plains in OWN_CARD:
+        wanted = program.edit(SUBJECT, "\n".join(["keep 1", "keep 3", *plains, "sum 1", "sum 3"]).encode())
+        ran = program.edit(SUBJECT, f"keep 1\nkeep 3\n{line}\nsum 1\nsum 3".encode(), ["edit", "-x"])
+        yield from differences(ran, status=0, printed=wanted.printed, reported=b"", saved=wanted.saved)
+
+
 def each(program, line, plains):
     """Where a line for each HDU doesn't leave what these plain lines do, or is a command without `-a`."""
     wanted = program.edit(SUBJECT, "\n".join(plains).encode("latin-1"))
@@ -272,6 +402,18 @@ def each(program, line, plains):
     yield from differences(ran, status=0, printed=b"", reported=b"", saved=wanted.saved)
     for words in (["edit"], ["edit", "-x"]):
         yield from none(program, line, words)
+
+
+def queries(program, line, printed, status):
+    """Where a query of each HDU doesn't print this, counts an HDU that refuses, or is a command without `-x`."""
+    after = "get 1 BITPIX\nget 1 ABSENT\n"
+    ran = program.edit(SUBJECT, f"{line}\n{after}".encode("latin-1"), ["edit", "-x"])
+    yield from differences(ran, status=1, printed=printed + b"integer 8\nline 3: refused 3 NoKey\n", reported=b"", saved=SUBJECT)
+    asked = program.tell(["ask", "-x", "-e", line.encode("latin-1")], SUBJECT)
+    yield from differences(asked, status=status, printed=printed, reported=b"")
+    whole = program.edit(SUBJECT, line.encode("latin-1"), ["edit", "-x", "-a"])
+    yield from differences(whole, status=status, printed=printed)
+    yield from none(program, line, ["edit"])
 
 
 def kept_back(program, line, why):
@@ -288,6 +430,18 @@ def unmet(program, line, why):
     ran = program.edit(SUBJECT, line.encode(), ["edit", "-x"])
     yield from differences(ran, status=1, printed=printed, reported=b"", saved=SUBJECT)
     yield from none(program, line, ["edit"])
+
+
+def compared(program, a, b, so):
+    """Where a number isn't found to be the same as another, or is found to be, as it has to."""
+    for had, wanted in ((a, b), (b, a)):
+        for had, wanted in ((had, wanted), (f"(1,{had})", f"( 1.0 , {wanted} )")):
+            if len(had) > 70 or "T" in had + wanted or ("(" in had and "'" in had + wanted):
+                continue
+            subject = header(f"{MANDATORY}|X       = {had}|END")
+            ran = program.edit(subject, f"want 1 X {wanted}".encode(), ["edit", "-x"])
+            printed = b"" if so else b"line 1: refused 17 Other\n"
+            yield from differences(ran, status=0 if so else 1, printed=printed, reported=b"", saved=subject)
 
 
 def neither(program, line):

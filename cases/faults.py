@@ -216,6 +216,13 @@ TOLD = [
         1,
     ),
     (["sum"], file(([(STAMPED, 0), (PIXEL, 1)], "trailer")), "1 0 1 1\n2 1867394316 0 0\n", 0),
+    (
+        ["verify", "-p", "--json"],
+        file(([(P0.replace("|END", "|KEY     = TRUE|END"), 0)], "")),
+        '{"card":"KEY     = TRUE","code":"E03","file":"in.fits","hdu":1,"place":4,"text":"unreadable value"}\n'
+        '{"errors":1,"file":"in.fits","warnings":0}\n',
+        1,
+    ),
 ]
 
 # Each stream of a run, and how many bytes a call of it may move.

@@ -20,6 +20,7 @@ import documents
 import extended
 import faults
 import hdu_edits
+import json_lines
 import keeping
 import kept_sums
 import lines
@@ -55,6 +56,7 @@ TABLES = [
     keeping,
     listings,
     sums,
+    json_lines,
     commands,
     pairs,
     reports,

@@ -16,15 +16,15 @@ _fitsed() {
             ;;
     esac
     case $command in
-        keys) flags='--hdu --name --recursive --files0-from --verbose' ;;
+        keys) flags='--hdu --name --recursive --files0-from --progress --verbose' ;;
         diff) flags='--script --verbose' ;;
-        edit) flags='--all --check --warnings --sums --tables --in-place --done --no-clobber --safe --backup --line --file --extended --with-filename --recursive --verbose' ;;
-        ask) flags='--line --file --extended --tables --with-filename --recursive --files0-from --verbose' ;;
-        cards) flags='--hdu --name --files-without --null --with-filename --recursive --files0-from --verbose' ;;
-        list) flags='--long --with-filename --recursive --files0-from --verbose' ;;
-        stat) flags='--with-filename --recursive --files0-from --verbose' ;;
-        sum) flags='--check --with-filename --recursive --files0-from --verbose' ;;
-        verify) flags='--errors --quiet --print-cards --summary --tables --warnings --files-with-errors --null --with-filename --recursive --files0-from --verbose' ;;
+        edit) flags='--all --check --warnings --sums --tables --in-place --done --no-clobber --safe --backup --line --file --extended --with-filename --recursive --progress --verbose' ;;
+        ask) flags='--line --file --extended --tables --with-filename --json --recursive --files0-from --progress --verbose' ;;
+        cards) flags='--hdu --name --files-without --null --with-filename --json --recursive --files0-from --progress --verbose' ;;
+        list) flags='--long --with-filename --json --recursive --files0-from --progress --verbose' ;;
+        stat) flags='--with-filename --json --recursive --files0-from --progress --verbose' ;;
+        sum) flags='--check --with-filename --json --recursive --files0-from --progress --verbose' ;;
+        verify) flags='--errors --quiet --print-cards --summary --tables --warnings --files-with-errors --null --with-filename --json --recursive --files0-from --progress --verbose' ;;
         *) return ;;
     esac
     case $word in

@@ -1,5 +1,5 @@
 -- Lines that are done one by one, and the script that they are.
-use Rattle.std.proofs.Common.{◌≡◌, ℕ, ◌+◌, ◌≤◌, Bool, false, true, List, [], ◌∷◌, ◌++◌, length, All, Result, Ok, Err, refl, ap, sym, ◌∙◌, inl, inr, rules}
+use Rattle.std.proofs.Common.{◌≡◌, ℕ, ◌+◌, ◌≤◌, Bool, false, true, List, [], ◌∷◌, ◌++◌, length, All, Result, Ok, Err, None, refl, ap, sym, ◌∙◌, inl, inr, rules}
 use Rattle.std.specs.Prelude.{nat_le, if◌then◌else◌}
 use Rattle.std.proofs.lemmas.List.{append-nil, take_all}
 use Rattle.fits_passing.specs.File.{file_bytes, FileParts, IsFileOf}
@@ -10,8 +10,8 @@ use Rattle.fits_script.specs.Line.{reading_of, ReadingNeedsMemory}
 use Rattle.fits_script.specs.declared.command.Command.{Command}
 use Rattle.fits_script.specs.declared.line_reading.LineReading.{LineReading}
 use Rattle.fits_script.specs.declared.line_reading.LineReading.TheVariants.{TooLong, NoCommand, Said}
-use Rattle.fits_extended.specs.Stands.{stands_for}
-use Rattle.fits_cli.specs.Answer.{after_outcome, answer_of, answer_to, at_first_line, done_last, left_after, left_of, line_answer, line_left, outcome_of, outcome_text, CommandFails, Done, LineNeedsMemory, Standing}
+use Rattle.fits_extended.specs.Stands.{queries_for, stands_for}
+use Rattle.fits_cli.specs.Answer.{meant_by, after_outcome, answer_of, answer_to, at_first_line, done_last, left_after, left_of, line_answer, line_left, outcome_of, outcome_text, CommandFails, Done, LineNeedsMemory, Standing}
 use Rattle.fits_cli.specs.Output.{answers, output_of_lines, output_too_long, standing_after, Output, IsOutputOf}
 use Rattle.fits_cli.specs.Script.{ended_lines, HasNoLineFeed}
 use Rattle.fits_cli.specs.Terms.{plain}
@@ -71,13 +71,13 @@ same_after before (Said command) = outcome_same before command (outcome_of befor
 answer_plain : (before : Standing) (line : List ℕ) → before.extended ≡ false → answer_to before line ≡ line_answer before (reading_of line)
 unfolding answer_to done_last
 answer_plain before line off =
-    ap (λ (extended : Bool). answer_of before (if extended then stands_for before.whole before.marked.file line else Ok (line ∷ []))) off
+    ap (λ (extended : Bool). answer_of before (meant_by (if extended then queries_for before.marked.file line else None) (if extended then stands_for before.whole before.marked.file line else Ok (line ∷ [])))) off
 
 -- and what it leaves
 left_plain : (before : Standing) (line : List ℕ) → before.extended ≡ false → left_after before line ≡ line_left before (reading_of line)
 unfolding left_after done_last
 left_plain before line off =
-    ap (λ (extended : Bool). left_of before (if extended then stands_for before.whole before.marked.file line else Ok (line ∷ []))) off
+    ap (λ (extended : Bool). left_of before (meant_by (if extended then queries_for before.marked.file line else None) (if extended then stands_for before.whole before.marked.file line else Ok (line ∷ [])))) off
 
 -- what lines print
 texts_are : (before : Standing) (lines : List (List ℕ)) → before.extended ≡ false → answers before lines ≡ printed_from before.line before.marked lines

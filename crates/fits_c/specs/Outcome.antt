@@ -5,6 +5,8 @@ use Rattle.fits_passing.specs.File.{FileParts, IsFileOf}
 use Rattle.fits_passing.specs.Headers.{ShowsHeaders}
 use Rattle.fits_passing.specs.Opening.{HasOpenFault}
 use Rattle.fits_passing.specs.declared.open_fault.OpenFault.{OpenFault}
+use Rattle.fits_tell.specs.declared.asked_hdu.AskedHdu.{AskedHdu}
+use Rattle.fits_tell.specs.declared.asked_hdu.AskedHdu.TheVariants.{Number}
 use Rattle.fits_tell.specs.Cards.{all_chosen, cards_text, end_of_cards}
 use Rattle.fits_tell.specs.Telling.{text_of, status_of_text}
 use Rattle.fits_tell.specs.declared.card_choice.CardChoice.{CardChoice}
@@ -104,8 +106,8 @@ abbrev pub TellComesTo : Telling → List ℕ → Outcome → Type 0
 TellComesTo kind file it = (it.status ≡ 3) ⊎ (IsTold kind file it ⊎ IsNotOpened file it)
 
 -- HDU h alone, or all at 0
-abbrev pub only : ℕ → List ℕ
-only h = if h == 0 then [] else h ∷ []
+abbrev pub only : ℕ → List AskedHdu
+only h = if h == 0 then [] else Number h ∷ []
 
 -- the cards of the headers that the bytes have are given: those of one HDU, or of all
 pub record AreCardsOf (h : ℕ) (file : List ℕ) (it : Outcome) : Type 0 where

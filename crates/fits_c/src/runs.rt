@@ -9,6 +9,7 @@ use crate::message::message_of;
 use crate::outcome::Outcome;
 use fits_cli::{CardChoice, End, Telling, Terms, end_of, run_cards, run_edit_told, run_telling};
 use fits_stream::Watched;
+use fits_tell::AskedHdu;
 use std::alloc::{AllocError, Global};
 use std::io;
 
@@ -68,7 +69,7 @@ fn choice_of(alloc: Global, h: u64) -> Result<CardChoice, AllocError>
 {
     let mut hdus = Vec::new(alloc);
     if h != 0 {
-        hdus.push(h)?;
+        hdus.push(AskedHdu::Number(h))?;
     }
     Ok(CardChoice {
         hdus,

@@ -1,5 +1,6 @@
 pub mod AnswerLemmas
 pub mod ComplaintLemmas
+pub mod EachLemmas
 pub mod EditingLemmas
 pub mod EndingLemmas
 pub mod ExitLemmas

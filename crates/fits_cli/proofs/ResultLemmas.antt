@@ -17,8 +17,7 @@ use Rattle.fits_script.specs.declared.misfit.Misfit.{Misfit}
 use Rattle.fits_script.specs.declared.limits.TheConstants.{LINE_LIMIT}
 use Rattle.fits_script.specs.declared.line_reading.LineReading.{LineReading}
 use Rattle.fits_script.specs.declared.line_reading.LineReading.TheVariants.{TooLong, NoCommand, Said}
-use Rattle.fits_extended.specs.declared.unmet.Unmet.{Unmet}
-use Rattle.fits_cli.specs.Answer.{Standing, after_outcome, asked, done_last, is_last_done, kept_line, left_after, left_of, line_left, line_stands, outcome_of, plain_left, still_at, some_places, sums_asked, unless}
+use Rattle.fits_cli.specs.Answer.{Meant, in_turn, of_each, of_none, Standing, after_outcome, all_refused, asked, done_last, each_left, first_line, held_after, held_at, is_last_done, kept_line, left_after, left_of, line_left, line_stands, outcome_of, plain_left, still_at, some_places, sums_asked, unless}
 use Rattle.fits_cli.specs.Output.{standing_after}
 use Rattle.fits_cli.proofs.SizeLemmas.{AllIn, IsSized, line_sized}
 
@@ -79,10 +78,24 @@ plains_file standing (plain ∷ others) p = elim (cases_Bool (is_last_done stand
   | inr more ↦ rw more (plains_file (still_at standing (reading_of plain)) others (line_file standing plain (reading_of plain) refl p))
 ]
 
+-- queries of several HDUs do
+held_file : (standing : Standing) (plains : List (List ℕ)) → IsFile standing.marked.file → IsFile (held_after standing plains).marked.file
+unfolding held_after
+held_file standing [] p = p
+held_file standing (plain ∷ others) p = held_file (held_at standing (reading_of plain)) others (line_file standing plain (reading_of plain) refl p)
+
+-- whether one of them is done or none
+each_file : (standing : Standing) (plains : List (List ℕ)) → IsFile standing.marked.file → IsFile (each_left standing plains).marked.file
+each_file standing plains p = elim (cases_Bool (all_refused standing plains)) [
+  | inl all ↦ rw all (line_file (held_after standing plains) (first_line plains) (reading_of (first_line plains)) refl (held_file standing plains p))
+  | inr some ↦ rw some (held_file standing plains p)
+]
+
 -- whatever a line stands for
-left_file : (standing : Standing) (stands : Result (List (List ℕ)) Unmet) → IsFile standing.marked.file → IsFile (left_of standing stands).marked.file
-left_file standing (Ok plains) p = plains_file standing plains p
-left_file standing (Err why) p = p
+left_file : (standing : Standing) (stands : Meant) → IsFile standing.marked.file → IsFile (left_of standing stands).marked.file
+left_file standing (in_turn plains) p = plains_file standing plains p
+left_file standing (of_each plains) p = each_file standing plains p
+left_file standing (of_none why) p = p
 
 -- all lines do
 pub lines_file : (standing : Standing) (lines : List (List ℕ)) → IsFile standing.marked.file → IsFile (standing_after standing lines).marked.file

@@ -1,12 +1,13 @@
 -- A script's lines, answered one after another as they come.
-use Rattle.std.proofs.Common.{◌≡◌, ℕ, zero, suc, ◌+◌, ◌<◌, List, [], ◌∷◌, ◌++◌, length, take, refl, ap, sym, ◌∙◌, append_assoc, arith, inl, inr, Bool, false, true, subst, Some, Ok, Err}
-use Rattle.std.specs.Prelude.{Result, if◌then◌else◌}
+use Rattle.std.proofs.Common.{◌≡◌, ℕ, zero, suc, ◌+◌, ◌<◌, List, [], ◌∷◌, ◌++◌, length, take, refl, ap, sym, ◌∙◌, append_assoc, arith, inl, inr, Bool, false, true, subst, Some, None, Ok, Err}
+use Rattle.std.specs.Prelude.{◌&&◌, Result, if◌then◌else◌}
 use Rattle.std.proofs.lemmas.Bool.{cases_lt}
 use Rattle.std.proofs.lemmas.List.{append-nil, take_all, take-append-le, length-take-le}
-use Rattle.fits_extended.specs.Stands.{standing_in, stands_for}
-use Rattle.fits_extended.specs.Words.{may_stand}
+use Rattle.fits_extended.specs.Stands.{queries_for, standing_in, stands_for, with_numbers}
+use Rattle.fits_extended.specs.Words.{is_query_of_each, may_stand}
+use Rattle.fits_script.specs.Words.{after_next, after_word, first_word}
 use Rattle.fits_extended.specs.declared.unmet.Unmet.{Unmet}
-use Rattle.fits_cli.specs.Answer.{Standing, answer_of, answer_to, left_after, left_of, line_answer, line_left, line_stands, plain_answer, plain_left, AtOne, CommandWantsPixels, LineNeedsMemory, NeedsMemoryFor, PlainNeedsMemory, PlainWantsPixels, WantsPixels, WantsPixelsFor}
+use Rattle.fits_cli.specs.Answer.{Meant, in_turn, of_each, of_none, Standing, meant_by, plains_for, queries_by, StandsForMemory, StandsForPixels, answer_of, answer_to, left_after, left_of, line_answer, line_left, line_stands, plain_answer, plain_left, AtOne, CommandWantsPixels, LineNeedsMemory, NeedsMemoryFor, PlainNeedsMemory, PlainWantsPixels, WantsPixels, WantsPixelsFor}
 use Rattle.fits_script.specs.declared.limits.TheConstants.{LINE_LIMIT}
 use Rattle.fits_script.specs.Line.{reading_of}
 use Rattle.fits_script.specs.declared.line_reading.LineReading.TheVariants.{TooLong}
@@ -149,11 +150,13 @@ unfolding may_stand
 may_stand-long line long = rw (over_limit (length line) LINE_LIMIT long) refl
 
 -- a line that is too long stands for itself
-stands-long : (s : Standing) (line : List ℕ) → LINE_LIMIT < length line → line_stands s line ≡ Ok (line ∷ [])
-unfolding stands_for
+stands-long : (s : Standing) (line : List ℕ) → LINE_LIMIT < length line → line_stands s line ≡ in_turn (line ∷ [])
+unfolding stands_for queries_for
 stands-long s line long = of s.extended (may_stand line) (may_stand-long line long)
   where
-    of : (extended may : Bool) → may ≡ false → (if extended then (if may then standing_in s.whole s.marked.file line else Ok (line ∷ [])) else Ok (line ∷ [])) ≡ Ok (line ∷ [])
+    of : (extended may : Bool) → may ≡ false
+        → meant_by (if extended then (if may && is_query_of_each line then Some (with_numbers (first_word line) (after_next (after_word line)) (length s.marked.file.hdus) 1) else None) else None)
+        (if extended then (if may then standing_in s.whole s.marked.file line else Ok (line ∷ [])) else Ok (line ∷ [])) ≡ in_turn (line ∷ [])
     of false may over = refl
     of true may over = rw over refl
 
@@ -243,37 +246,43 @@ PlainStops-reply line before held WriteFailed lacks = absurd lacks
 PlainStops-reply line before held (RereadFault why) lacks = (lacks.0, (lacks.1, refl))
 
 -- what a line stands for is answered
-pub AnswersLine-stands : (line : List ℕ) (stands : Result (List (List ℕ)) Unmet) (before now : Standing) (held holds : Heard) → line_stands before line ≡ stands
+pub AnswersLine-stands : (line : List ℕ) (stands : Meant) (before now : Standing) (held holds : Heard) → line_stands before line ≡ stands
     → AnswersAs (answer_of before stands) (remark_of before stands) (left_of before stands) now held holds → AnswersLine line before now held holds
 unfolding answer_to left_after remark_to
 AnswersLine-stands line stands before now held holds is one = rw is one
 
 -- also where that is one plain line
-pub AnswersLine-plain : (line plain : List ℕ) (before now : Standing) (held holds : Heard) → line_stands before line ≡ Ok (plain ∷ []) → AnswersPlain plain before now held holds → AnswersLine line before now held holds
+pub AnswersLine-plain : (line plain : List ℕ) (before now : Standing) (held holds : Heard) → line_stands before line ≡ in_turn (plain ∷ []) → AnswersPlain plain before now held holds → AnswersLine line before now held holds
 AnswersLine-plain line plain before now held holds is one =
-    AnswersLine-stands line (Ok (plain ∷ [])) before now held holds is
+    AnswersLine-stands line (in_turn (plain ∷ [])) before now held holds is
     (subst (λ last. AnswersAs (plain_answer last) (plain_remark last) (plain_left last) now held holds) (sym (done_last-one before plain)) one)
 
--- a line stands for plain ones that aren't answered
-pub LineStops-plains : (line : List ℕ) (plains : List (List ℕ)) (before : Standing) (held holds : Heard) (fault : Fault) → line_stands before line ≡ Ok plains
-    → StopsAs (answer_of before (Ok plains)) (AtOne PlainNeedsMemory before plains) (AtOne PlainWantsPixels before plains) held holds fault → LineStops line before held holds fault
+-- what a line stands for isn't answered
+pub LineStops-stands : (line : List ℕ) (stands : Meant) (before : Standing) (held holds : Heard) (fault : Fault) → line_stands before line ≡ stands
+    → StopsAs (answer_of before stands) (StandsForMemory before stands) (StandsForPixels before stands) held holds fault → LineStops line before held holds fault
 unfolding answer_to NeedsMemoryFor WantsPixelsFor
-LineStops-plains line plains before held holds fault is stops =
-    rw is (StopsAs-weaker (answer_of before (Ok plains)) (AtOne PlainNeedsMemory before plains) (AtOne PlainWantsPixels before plains) _ _ held holds fault (λ needs. inr needs) (λ wants. wants) stops)
+LineStops-stands line stands before held holds fault is stops =
+    rw is (StopsAs-weaker (answer_of before stands) (StandsForMemory before stands) (StandsForPixels before stands) _ _ held holds fault (λ needs. inr needs) (λ wants. wants) stops)
 
--- also where there is one
-pub LineStops-plain : (line plain : List ℕ) (before : Standing) (held holds : Heard) (fault : Fault) → line_stands before line ≡ Ok (plain ∷ []) → PlainStops plain before held holds fault → LineStops line before held holds fault
+-- also where that is one plain line
+pub LineStops-plain : (line plain : List ℕ) (before : Standing) (held holds : Heard) (fault : Fault) → line_stands before line ≡ in_turn (plain ∷ []) → PlainStops plain before held holds fault → LineStops line before held holds fault
 LineStops-plain line plain before held holds fault is stops =
-    LineStops-plains line (plain ∷ []) before held holds fault is
+    LineStops-stands line (in_turn (plain ∷ [])) before held holds fault is
     (subst (λ last. StopsAs (plain_answer last) (AtOne PlainNeedsMemory before (plain ∷ [])) (AtOne PlainWantsPixels before (plain ∷ [])) held holds fault) (sym (done_last-one before plain))
     (StopsAs-weaker (line_answer before (reading_of plain)) (LineNeedsMemory before.marked (reading_of plain)) (WantsPixels before.marked (reading_of plain)) _ _ held holds fault
     (λ needs. at_first PlainNeedsMemory before plain [] needs) (λ wants. at_first PlainWantsPixels before plain [] wants) stops))
 
--- it stands for none, and that isn't answered
-pub LineStops-unmet : (line : List ℕ) (why : Unmet) (before : Standing) (held holds : Heard) (fault : Fault) → line_stands before line ≡ Err why → StopsAs (answer_of before (Err why)) ⊥ ⊥ held holds fault → LineStops line before held holds fault
-unfolding answer_to NeedsMemoryFor WantsPixelsFor
-LineStops-unmet line why before held holds fault stands stops =
-    rw stands (StopsAs-weaker (answer_of before (Err why)) ⊥ ⊥ _ _ held holds fault (λ needs. absurd needs) (λ wants. wants) stops)
+-- a line stands for queries of each HDU
+pub meant_each : (s : Standing) (line : List ℕ) (queries : List (List ℕ)) → queries_by s line ≡ Some queries → line_stands s line ≡ of_each queries
+meant_each s line queries is = ap (λ q. meant_by q (plains_for s line)) is
+
+-- or for plain lines, each in its turn
+pub meant_turn : (s : Standing) (line : List ℕ) (plains : List (List ℕ)) → queries_by s line ≡ None → plains_for s line ≡ Ok plains → line_stands s line ≡ in_turn plains
+meant_turn s line plains none is = ap (λ q. meant_by q (plains_for s line)) none ∙ ap (meant_by None) is
+
+-- or for nothing
+pub meant_none : (s : Standing) (line : List ℕ) (why : Unmet) → queries_by s line ≡ None → plains_for s line ≡ Err why → line_stands s line ≡ of_none why
+meant_none s line why none is = ap (λ q. meant_by q (plains_for s line)) none ∙ ap (meant_by None) is
 
 -- memory is refused as it is found what a line stands for
 pub LineStops-finding : (line : List ℕ) (before : Standing) (held : Heard) → before.extended ≡ true → may_stand line ≡ true → LineStops line before held held Memory

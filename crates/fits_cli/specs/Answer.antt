@@ -1,5 +1,5 @@
 -- What the lines of a script print and do (own).
-use Rattle.std.specs.Prelude.{◌≡◌, ◌<◌, ◌⊎◌, ℕ, ◌+◌, Bool, false, true, List, [], ◌∷◌, ◌++◌, ◌||◌, ◌==◌, codes, length, nat_lt, Option, Some, None, Result, Ok, Err, IsOk, IsOkAnd, if◌then◌else◌}
+use Rattle.std.specs.Prelude.{◌≡◌, ◌<◌, ◌⊎◌, ◌&&◌, ℕ, ◌+◌, Bool, false, true, List, [], ◌∷◌, ◌++◌, ◌||◌, ◌==◌, codes, length, nat_lt, Option, Some, None, Result, Ok, Err, IsOk, IsOkAnd, if◌then◌else◌}
 use Rattle.std.specs.Fmt.{decimal}
 use Rattle.std.specs.List.{flat_map}
 use Rattle.fits_passing.specs.declared.verdicts.Verdicts.{Verdicts}
@@ -19,7 +19,7 @@ use Rattle.fits_script.specs.Line.{reading_of, ReadingNeedsMemory}
 use Rattle.fits_tell.specs.PixelLines.{statistics_line, sums_line, values_line}
 use Rattle.fits_tell.specs.Report.{report_text}
 use Rattle.fits_cli.specs.ValueLine.{value_line}
-use Rattle.fits_extended.specs.Stands.{stands_for, unmet_text}
+use Rattle.fits_extended.specs.Stands.{queries_for, stands_for, unmet_text}
 use Rattle.fits_extended.specs.Words.{may_stand}
 use Rattle.fits_extended.specs.declared.unmet.Unmet.{Unmet}
 use Rattle.fits_script.specs.declared.line_reading.LineReading.{LineReading}
@@ -152,6 +152,14 @@ after_done standing command left = record standing { marked = left; line = stand
 abbrev pub after_refused : Standing → Standing
 after_refused standing = record standing { line = standing.line + 1; refused = standing.refused + 1 }
 
+-- the next line, after one that was refused or not, whose command is an edit or isn't; the file is as that left it
+abbrev pub after_reply : Bool → Bool → Standing → Standing
+after_reply refused edits standing = record standing {
+  line = standing.line + 1;
+  refused = standing.refused + (if refused then 1 else 0);
+  edited = if refused then standing.edited else edits || standing.edited;
+}
+
 -- what an outcome prints
 abbrev pub outcome_text : ℕ → Result Done Refusal → List ℕ
 outcome_text number (Ok done) = done.text
@@ -224,27 +232,99 @@ AtOne Is standing [] = Is standing []
 AtOne Is standing (plain ∷ others) =
     Is standing plain ⊎ ((is_last_done standing plain others ≡ false) × AtOne Is (still_at standing (reading_of plain)) others)
 
--- the plain lines that a line stands for as things stand, or why it stands for none: where extended lines aren't taken it is plain
-abbrev pub line_stands : Standing → List ℕ → Result (List (List ℕ)) Unmet
-line_stands standing line = if standing.extended then stands_for standing.whole standing.marked.file line else Ok (line ∷ [])
+-- how things stand at the same line of a script after a query of one of several HDUs, whether it is refused or not
+abbrev pub held_at : Standing → LineReading → Standing
+held_at standing reading = record (line_left standing reading) { line = standing.line; refused = standing.refused }
+
+-- after those of several HDUs
+unfoldable pub held_after : Standing → List (List ℕ) → Standing
+held_after standing [] = standing
+held_after standing (plain ∷ others) = held_after (held_at standing (reading_of plain)) others
+
+-- what a query of HDU h prints: the number of the HDU and its answer, or nothing where it is refused
+abbrev pub hdu_answer : ℕ → Standing → List ℕ → List ℕ
+hdu_answer h standing plain =
+    if is_refused standing (reading_of plain) then [] else decimal h ++ (codes " " ++ line_answer standing (reading_of plain))
+
+-- what those of several HDUs print, from this number on
+unfoldable pub hdu_answers : ℕ → Standing → List (List ℕ) → List ℕ
+hdu_answers h standing [] = []
+hdu_answers h standing (plain ∷ others) = hdu_answer h standing plain ++ hdu_answers (h + 1) (held_at standing (reading_of plain)) others
+
+-- each of them is refused
+unfoldable pub all_refused : Standing → List (List ℕ) → Bool
+all_refused standing [] = true
+all_refused standing (plain ∷ others) = is_refused standing (reading_of plain) && all_refused (held_at standing (reading_of plain)) others
+
+-- the first of plain lines; where there is none it is empty
+abbrev pub first_line : List (List ℕ) → List ℕ
+first_line [] = []
+first_line (plain ∷ others) = plain
+
+-- the query of the first HDU, which stands for those of all where each is refused
+abbrev pub asked_again : Standing → List (List ℕ) → Standing × List ℕ
+asked_again standing plains = (held_after standing plains, first_line plains)
+
+-- something is so at one of the queries of several HDUs, or at the one that is asked again
+unfoldable pub AtEach : (Standing → List ℕ → Type 0) → List ℕ → Standing → List (List ℕ) → Type 0
+AtEach Is first standing [] = Is standing first
+AtEach Is first standing (plain ∷ others) = Is standing plain ⊎ AtEach Is first (held_at standing (reading_of plain)) others
+
+-- what a line stands for: plain lines, each in its turn; plain queries, one of each HDU; or nothing
+pub data Meant : Type 0 where
+  in_turn : List (List ℕ) → Meant
+  of_each : List (List ℕ) → Meant
+  of_none : Unmet → Meant
+
+-- the plain lines that a line stands for in its turn as things stand, or why it stands for none: where extended lines aren't taken it is plain
+abbrev pub plains_for : Standing → List ℕ → Result (List (List ℕ)) Unmet
+plains_for standing line = if standing.extended then stands_for standing.whole standing.marked.file line else Ok (line ∷ [])
+
+-- the plain queries of each HDU, if a line stands for them
+abbrev pub queries_by : Standing → List ℕ → Option (List (List ℕ))
+queries_by standing line = if standing.extended then queries_for standing.marked.file line else None
+
+-- what a line stands for by both
+abbrev pub meant_by : Option (List (List ℕ)) → Result (List (List ℕ)) Unmet → Meant
+meant_by (Some queries) plains = of_each queries
+meant_by None (Ok plains) = in_turn plains
+meant_by None (Err why) = of_none why
+
+-- what a line stands for as things stand
+abbrev pub line_stands : Standing → List ℕ → Meant
+line_stands standing line = meant_by (queries_by standing line) (plains_for standing line)
 
 -- what plain lines print that one line stands for: what the last of them does that is done
 abbrev pub plain_answer : Standing × List ℕ → List ℕ
 plain_answer last = line_answer last.0 (reading_of last.1)
 
--- what they leave
+-- what plain lines leave
 abbrev pub plain_left : Standing × List ℕ → Standing
 plain_left last = line_left last.0 (reading_of last.1)
 
+-- what queries of each HDU print: the answers of those that are done, or what the first one does where each is refused
+abbrev pub each_answer : Standing → List (List ℕ) → List ℕ
+each_answer standing plains = if all_refused standing plains then plain_answer (asked_again standing plains) else hdu_answers 1 standing plains
+
+-- how things stand at the next line of a script
+abbrev pub at_next : Standing → Standing
+at_next standing = record standing { line = standing.line + 1 }
+
+-- what queries of each HDU leave
+abbrev pub each_left : Standing → List (List ℕ) → Standing
+each_left standing plains = if all_refused standing plains then plain_left (asked_again standing plains) else at_next (held_after standing plains)
+
 -- what is printed of what a line stands for
-abbrev pub answer_of : Standing → Result (List (List ℕ)) Unmet → List ℕ
-answer_of standing (Ok plains) = plain_answer (done_last standing plains)
-answer_of standing (Err why) = complaint standing.line (unmet_text why)
+abbrev pub answer_of : Standing → Meant → List ℕ
+answer_of standing (in_turn plains) = plain_answer (done_last standing plains)
+answer_of standing (of_each plains) = each_answer standing plains
+answer_of standing (of_none why) = complaint standing.line (unmet_text why)
 
 -- what that leaves
-abbrev pub left_of : Standing → Result (List (List ℕ)) Unmet → Standing
-left_of standing (Ok plains) = plain_left (done_last standing plains)
-left_of standing (Err why) = after_refused standing
+abbrev pub left_of : Standing → Meant → Standing
+left_of standing (in_turn plains) = plain_left (done_last standing plains)
+left_of standing (of_each plains) = each_left standing plains
+left_of standing (of_none why) = after_refused standing
 
 -- what a line prints, whatever it stands for
 unfoldable pub answer_to : Standing → List ℕ → List ℕ
@@ -259,9 +339,10 @@ abbrev pub PlainWantsPixels : Standing → List ℕ → Type 0
 PlainWantsPixels standing plain = WantsPixels standing.marked (reading_of plain)
 
 -- what a line stands for may
-abbrev pub StandsForPixels : Standing → Result (List (List ℕ)) Unmet → Type 0
-StandsForPixels standing (Ok plains) = AtOne PlainWantsPixels standing plains
-StandsForPixels standing (Err why) = ⊥
+abbrev pub StandsForPixels : Standing → Meant → Type 0
+StandsForPixels standing (in_turn plains) = AtOne PlainWantsPixels standing plains
+StandsForPixels standing (of_each plains) = AtEach PlainWantsPixels (first_line plains) standing plains
+StandsForPixels standing (of_none why) = ⊥
 
 -- so may a line
 unfoldable pub WantsPixelsFor : Standing → List ℕ → Type 0
@@ -271,10 +352,11 @@ WantsPixelsFor standing line = StandsForPixels standing (line_stands standing li
 abbrev pub PlainNeedsMemory : Standing → List ℕ → Type 0
 PlainNeedsMemory standing plain = LineNeedsMemory standing.marked (reading_of plain)
 
--- it may at what a line stands for
-abbrev pub StandsForMemory : Standing → Result (List (List ℕ)) Unmet → Type 0
-StandsForMemory standing (Ok plains) = AtOne PlainNeedsMemory standing plains
-StandsForMemory standing (Err why) = ⊥
+-- it may at what a line stands for: also as the answers of several HDUs are put together
+abbrev pub StandsForMemory : Standing → Meant → Type 0
+StandsForMemory standing (in_turn plains) = AtOne PlainNeedsMemory standing plains
+StandsForMemory standing (of_each plains) = Unit {0}
+StandsForMemory standing (of_none why) = ⊥
 
 -- it may at a line: as is found what an extended one stands for, or at that
 unfoldable pub NeedsMemoryFor : Standing → List ℕ → Type 0

@@ -26,7 +26,7 @@ use Rattle.fits_script.specs.declared.line_reading.LineReading.TheVariants.{TooL
 use Rattle.fits_extended.specs.Stands.{unmet_text}
 use Rattle.fits_extended.specs.declared.unmet.Unmet.{Unmet}
 use Rattle.fits_extended.specs.declared.unmet.Unmet.TheVariants as unmet
-use Rattle.fits_cli.specs.Answer.{Done, Standing, complaint, done_last, left_after, line_stands, outcome_of}
+use Rattle.fits_cli.specs.Answer.{Done, Meant, in_turn, of_each, of_none, Standing, all_refused, asked_again, complaint, done_last, left_after, line_stands, outcome_of}
 use Rattle.fits_cli.specs.declared.clues.Clues.{Clues}
 use Rattle.fits_cli.specs.declared.reason.Reason.{Reason}
 use Rattle.fits_cli.specs.declared.reason.Reason.TheVariants.{CarriageReturn, SmallLetters, Unwritten, Plain}
@@ -162,10 +162,15 @@ line_remark standing line = remark_line standing.line (remark_on standing.marked
 abbrev pub plain_remark : Standing × List ℕ → List ℕ
 plain_remark last = line_remark last.0 last.1
 
+-- what is said of queries of each HDU: nothing, unless each is refused
+abbrev pub each_remark : Standing → List (List ℕ) → List ℕ
+each_remark standing plains = if all_refused standing plains then plain_remark (asked_again standing plains) else []
+
 -- what is said of what a line stands for
-abbrev pub remark_of : Standing → Result (List (List ℕ)) Unmet → List ℕ
-remark_of standing (Ok plains) = plain_remark (done_last standing plains)
-remark_of standing (Err why) = complaint standing.line (unmet_remark why)
+abbrev pub remark_of : Standing → Meant → List ℕ
+remark_of standing (in_turn plains) = plain_remark (done_last standing plains)
+remark_of standing (of_each plains) = each_remark standing plains
+remark_of standing (of_none why) = complaint standing.line (unmet_remark why)
 
 -- what is said of a line, whatever it stands for
 unfoldable pub remark_to : Standing → List ℕ → List ℕ

@@ -1,5 +1,6 @@
 -- What a line comes to in the program, and what is printed of it.
-use Rattle.std.specs.Prelude.{ℕ, Bool, true, false, List, codes, Result, Ok, Err, alloc_error}
+use Rattle.std.specs.Prelude.{ℕ, Bool, true, false, List, [], ◌++◌, codes, Result, Ok, Err, alloc_error}
+use Rattle.std.specs.Fmt.{decimal}
 use Rattle.std.specs.declared.alloc.AllocError.{AllocError}
 use Rattle.std.specs.declared.alloc.Global.{Global}
 use Rattle.std.specs.declared.vec.Vec.{Vec}
@@ -33,3 +34,11 @@ abbrev pub settled : Clues → Result (Vec ℕ Global) SessionRefusal → Result
 settled clues (Ok text) = Ok (Done text)
 settled clues (Err Memory) = Err alloc_error
 settled clues (Err why) = Ok (Refused why clues)
+
+-- what is printed of a query of HDU h among those of others: the number of the HDU and its answer, or nothing where it is refused
+abbrev pub numbered_reply : ℕ → Reply → List ℕ
+numbered_reply h (Done text) = decimal h ++ (codes " " ++ text.items)
+numbered_reply h (Refused why clues) = []
+numbered_reply h TooLong = []
+numbered_reply h (NoCommand misfit) = []
+numbered_reply h (Unmet why) = []

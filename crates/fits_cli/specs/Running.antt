@@ -8,13 +8,13 @@ use Rattle.fits_hdu.specs.State.{HduState}
 use Rattle.fits_sum.specs.Words.{word_total}
 use Rattle.fits_session.specs.Away.{AllLie}
 use Rattle.fits_passing.specs.File.{FileParts}
-use Rattle.fits_cli.specs.Answer.{Standing, answer_to, at_first_line, left_after, line_answer, line_left, LineNeedsMemory, NeedsMemoryFor, WantsPixels, WantsPixelsFor}
+use Rattle.fits_cli.specs.Answer.{Meant, Standing, answer_of, answer_to, at_first_line, first_line, left_after, left_of, line_answer, line_left, AtEach, LineNeedsMemory, NeedsMemoryFor, PlainWantsPixels, StandsForMemory, StandsForPixels, WantsPixels, WantsPixelsFor}
 use Rattle.fits_cli.specs.Ends.{run_by, CameTo, GaveFile, HasLines, IsQuiet, OverFile, RunState}
 use Rattle.fits_script.specs.declared.limits.TheConstants.{LINE_LIMIT}
 use Rattle.fits_cli.specs.declared.limits.TheConstants.{SCRIPT_LIMIT}
 use Rattle.fits_script.specs.Line.{reading_of}
 use Rattle.fits_cli.specs.Output.{answers, standing_after}
-use Rattle.fits_cli.specs.Remark.{line_remark, remark_to, remarks, Remarks}
+use Rattle.fits_cli.specs.Remark.{line_remark, remark_of, remark_to, remarks, Remarks}
 use Rattle.fits_cli.specs.Script.{IsCutInLines, script_lines}
 use Rattle.fits_stream.specs.Stream.{SourceState, SinkState, FailsOnce, FailsToFlush, Flushes, IsDry, Prints, PrintsFront, Reads, StaysQuiet}
 use Rattle.fits_tell.specs.declared.fault.Fault.{Fault}
@@ -96,6 +96,10 @@ pub record AnswersAs (text remarked : List ℕ) (after now : Standing) (held hol
   pub said : Says text remarked held holds
   pub left : now ≡ after
 
+-- what a line stands for is answered, and things stand as after it
+abbrev pub AnswersMeant : Meant → Standing → Standing → Heard → Heard → Type 0
+AnswersMeant meant before now held holds = AnswersAs (answer_of before meant) (remark_of before meant) (left_of before meant) now held holds
+
 -- one line is answered, and things stand as after it
 abbrev pub AnswersLine : List ℕ → Standing → Standing → Heard → Heard → Type 0
 AnswersLine line before now held holds = AnswersAs (answer_to before line) (remark_to before line) (left_after before line) now held holds
@@ -113,7 +117,12 @@ StopsAs text needs wants held holds ReadFailed = ⊥
 StopsAs text needs wants held holds WriteFailed = PrintsFront text held.out holds.out × (holds.told ≡ held.told)
 StopsAs text needs wants held holds (RereadFault why) = IsUnchanged why × (wants × (holds ≡ held))
 
--- so it is with a line
+-- so it is with what a line stands for
+abbrev pub MeantStops : Meant → Standing → Heard → Heard → Fault → Type 0
+MeantStops meant before held holds fault =
+    StopsAs (answer_of before meant) (StandsForMemory before meant) (StandsForPixels before meant) held holds fault
+
+-- and with a line
 abbrev pub LineStops : List ℕ → Standing → Heard → Heard → Fault → Type 0
 LineStops line before held holds fault = StopsAs (answer_to before line) (NeedsMemoryFor before line) (WantsPixelsFor before line) held holds fault
 
@@ -134,6 +143,15 @@ LacksReply it reading (RereadFault why) = IsUnchanged why × WantsPixels it read
 -- so it is at one of plain lines, each in its turn
 abbrev pub LacksOne : Fault → Standing → List ℕ → Type 0
 LacksOne fault standing plain = LacksReply standing.marked (reading_of plain) fault
+
+-- queries of each HDU have no answer: memory was refused, or so it is at one of them
+abbrev pub LacksEach : Standing → List (List ℕ) → Fault → Type 0
+LacksEach before plains (Refused why) = ⊥
+LacksEach before plains ScriptTooLong = ⊥
+LacksEach before plains Memory = Unit {0}
+LacksEach before plains ReadFailed = ⊥
+LacksEach before plains WriteFailed = ⊥
+LacksEach before plains (RereadFault why) = IsUnchanged why × AtEach PlainWantsPixels (first_line plains) before plains
 
 -- these lines are answered, and things stand as after them
 pub record AnswersLines (lines : List (List ℕ)) (before now : Standing) (held holds : Heard) : Type 0 where

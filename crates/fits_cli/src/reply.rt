@@ -1,8 +1,8 @@
 //! What a line comes to, and what is printed of it.
-ghost use Rattle.std.specs.Prelude.{◌≡◌, OnOk, IfErr};
+ghost use Rattle.std.specs.Prelude.{◌≡◌, ◌++◌, not, IfOk, OnOk, IfErr};
 ghost use Rattle.fits_stream.specs.Stream.{Prints};
 ghost use Rattle.fits_tell.specs.Faults.{PrintFails};
-ghost use Rattle.fits_cli.specs.Reply.{counts_as_refused, reply_text, settled};
+ghost use Rattle.fits_cli.specs.Reply.{counts_as_refused, numbered_reply, reply_text, settled};
 
 use crate::clues::Clues;
 use crate::complaint::print_complaint;
@@ -10,7 +10,7 @@ use fits_extended::Unmet;
 use fits_script::Misfit;
 use fits_session::Refusal;
 use fits_stream::Sink;
-use fits_tell::{Fault, print};
+use fits_tell::{Fault, print, push_both, push_number};
 use std::alloc::AllocError;
 
 /// What a line comes to.
@@ -65,5 +65,25 @@ pub(crate) fn print_reply<O: Sink>(out: &mut O, line: u64, reply: &Reply<'_>) ->
         Reply::TooLong => print_complaint(out, line, "too long"),
         Reply::NoCommand(_) => print_complaint(out, line, "not a command"),
         Reply::Unmet(why) => print_complaint(out, line, why.text()),
+    }
+}
+
+/// Adds what a query of one of several HDUs comes to, if it was done: the number of the HDU before
+/// its answer. Says whether it was.
+pub(crate) fn push_numbered(
+    text: &mut Vec<u8>,
+    hdu: usize,
+    reply: &Reply<'_>,
+) -> Result<bool, AllocError>
+    ensures text { OnOk result (text.new.items ≡ text.old.items ++ numbered_reply hdu reply.now) }
+    ensures done { IfOk result (λ done. done ≡ not (counts_as_refused reply.now)) }
+{
+    match reply {
+        Reply::Done(said) => {
+            push_number(text, b"", hdu as u64)?;
+            push_both(text, b" ", said)?;
+            Ok(true)
+        }
+        Reply::Refused(_, _) | Reply::TooLong | Reply::NoCommand(_) | Reply::Unmet(_) => Ok(false),
     }
 }

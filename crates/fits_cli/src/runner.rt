@@ -15,7 +15,7 @@ use crate::reports::Reports;
 use crate::saves::Saves;
 use crate::table_problems::table_problems;
 use crate::terms::Terms;
-use fits_extended::{Stands, Unmet, plain_line};
+use fits_extended::{Stands, Unmet, plain_line, queries_of_each};
 use fits_script::{LineReading, read_line};
 use fits_session::{Holder, Session};
 use fits_stream::{ReadLog, Sink};
@@ -72,8 +72,8 @@ impl<H: Holder + Drop> Runner<H> {
     ghost use Rattle.fits_stream.specs.Stream.{Prints};
     ghost use Rattle.fits_unit.specs.Again.{Follows, PrintsLike};
     ghost use Rattle.fits_session.specs.Away.{AllLie};
-    ghost use Rattle.fits_cli.specs.Answer.{after_refused, at_first_line, line_answer, line_left, line_stands, LineNeedsMemory};
-    ghost use Rattle.fits_extended.specs.Stands.{stood};
+    ghost use Rattle.fits_cli.specs.Answer.{after_refused, after_reply, at_first_line, at_next, line_answer, line_left, plains_for, queries_by, LineNeedsMemory};
+    ghost use Rattle.fits_extended.specs.Stands.{lines_if, stood};
     ghost use Rattle.fits_extended.specs.Words.{may_stand};
     ghost use Rattle.fits_script.specs.Line.{reading_of};
     ghost use Rattle.fits_cli.specs.Output.{saved_bytes, status_of};
@@ -147,9 +147,25 @@ impl<H: Holder + Drop> Runner<H> {
         saves.whole() && self.refused > 0
     }
 
-    /// What a line stands for as things stand.
+    /// The plain queries of each HDU, if a line stands for them as things stand.
+    pub(crate) fn queries(
+        &self,
+        alloc: Global,
+        line: &[u8],
+    ) -> Result<Option<Vec<Vec<u8>>>, AllocError>
+        ensures ok { IfOk result (λ it. lines_if it ≡ queries_by self.now.standing line.now) }
+        ensures err { OnErr result (self.now.standing.extended ≡ true) }
+        ensures may { OnErr result (may_stand line.now ≡ true) }
+    {
+        if !self.extended {
+            return Ok(None);
+        }
+        queries_of_each(alloc, &self.session, line)
+    }
+
+    /// The plain lines that a line stands for as things stand, each in its turn.
     pub(crate) fn stands_for(&mut self, alloc: Global, line: &[u8]) -> Result<Stands, AllocError>
-        ensures ok { IfOk result (λ it. stood line.now it ≡ line_stands self.old.standing line.now) }
+        ensures ok { IfOk result (λ it. stood line.now it ≡ plains_for self.old.standing line.now) }
         ensures err { OnErr result (self.old.standing.extended ≡ true) }
         ensures may { OnErr result (may_stand line.now ≡ true) }
         ensures same { self.new ≡ self.old }
@@ -179,6 +195,27 @@ impl<H: Holder + Drop> Runner<H> {
         self.line = line;
     }
 
+    /// Stays at a line of the script, after a query of one of several HDUs: where it was refused, that
+    /// doesn't count.
+    pub(crate) fn hold(&mut self, line: u64, refused: u64)
+        requires { refused < line }
+        ensures left { self.new.standing ≡ record self.old.standing { line = line; refused = refused } }
+        ensures log { self.new.log ≡ self.old.log }
+    {
+        self.line = line;
+        self.refused = refused;
+    }
+
+    /// Goes on to the next line, after queries of several HDUs that came to this.
+    pub(crate) fn go_on<'a>(&mut self, text: Vec<u8>) -> Reply<'a>
+        requires { self.old.standing.line + 1 < 2 ^ 64 }
+        ensures reply { result ≡ Reply.Done text }
+        ensures left { self.new.standing ≡ at_next self.old.standing }
+        ensures log { self.new.log ≡ self.old.log }
+    {
+        self.pass(Reply::Done(text), false)
+    }
+
     /// Does what a plain line says, and goes on to the next one. Where clues are wanted the reply has
     /// them.
     #[tactic(auto, unfolding(crate::specs::Answer::line_answer, crate::specs::Answer::line_left, crate::specs::Answer::LineNeedsMemory, crate::specs::Remark::remark_by, crate::specs::Remark::remark_on))]
@@ -199,6 +236,8 @@ impl<H: Holder + Drop> Runner<H> {
             (reading_of line.now) (reply_text self.old.standing.line reply)) }
         ensures err { Steady H.whole self.new.log → IfErr result
             (LacksReply self.old.standing.marked (reading_of line.now)) }
+        ensures counts { IfOk result (λ reply. self.new.standing.refused
+            ≡ self.old.standing.refused + (if counts_as_refused reply then 1 else 0)) }
         ensures quiet { OnOk result (self.new.log.failures ≡ self.old.log.failures) }
         ensures counted { IfErr result (FaultCounts self.old.log.failures self.new.log.failures) }
         ensures unanswered { IfErr result IsUnanswered }
@@ -227,14 +266,8 @@ impl<H: Holder + Drop> Runner<H> {
     fn pass<'a>(&mut self, reply: Reply<'a>, edits: bool) -> Reply<'a>
         requires { self.old.standing.line + 1 < 2 ^ 64 }
         ensures same { result ≡ reply.entry }
-        ensures left { self.new.standing ≡ record {
-          marked = self.old.standing.marked;
-          line = self.old.standing.line + 1;
-          refused = self.old.standing.refused + (if counts_as_refused reply.entry then 1 else 0);
-          edited = if counts_as_refused reply.entry then self.old.standing.edited else edits || self.old.standing.edited;
-          whole = self.old.standing.whole;
-          extended = self.old.standing.extended;
-        } }
+        ensures left { self.new.standing
+            ≡ after_reply (counts_as_refused reply.entry) edits self.old.standing }
         ensures log { self.new.log ≡ self.old.log }
     {
         self.line += 1;

@@ -1,5 +1,5 @@
 //! A script, answered line by line as it comes.
-ghost use Rattle.std.specs.Prelude.{◌≡◌, ◌<◌, ◌≤◌, ◌+◌, ◌^◌, ◌++◌, ◌==◌, ◌||◌, true, nat_lt, [], ◌∷◌, IfNone, IfSome, length, take, Err, IfErr, IfOk, Ok, OnErr, OnOk};
+ghost use Rattle.std.specs.Prelude.{◌≡◌, ◌<◌, ◌≤◌, ◌+◌, ◌^◌, ◌++◌, ◌==◌, ◌||◌, true, nat_lt, [], ◌∷◌, IfNone, IfSome, length, take, IfErr, IfOk, OnErr, OnOk};
 ghost use Rattle.std.specs.Prelude.{vec_capacity, vec_len};
 ghost use Rattle.std.specs.Option.{option_map};
 ghost use Rattle.std.specs.Io.{ReadsAtMost};
@@ -10,15 +10,15 @@ ghost use Rattle.fits_tell.specs.Faults.{PrintFails};
 ghost use Rattle.fits_cli.specs.Frame.{IsUnanswered, LinesLeave, PrintsSome, ScriptAnswers, ScriptLeaves};
 ghost use Rattle.fits_cli.specs.Reply.{reply_text};
 ghost use Rattle.fits_unit.specs.Again.{Follows};
-ghost use Rattle.fits_cli.specs.Answer.{answer_of, done_last, left_of, plain_answer, plain_left, AtOne, PlainNeedsMemory, PlainWantsPixels};
+ghost use Rattle.fits_cli.specs.Answer.{done_last, each_answer, each_left, first_line, in_turn, of_each, of_none, plain_answer, plain_left, AtOne};
 ghost use Rattle.fits_extended.specs.Stands.{lines_in};
-ghost use Rattle.fits_cli.specs.Remark.{plain_remark, remark_by, remark_line, remark_of};
-ghost use Rattle.fits_cli.specs.Running.{heard, kept_of, AnswersAs, AnswersLine, AnswersPlain, AnswersScript, Continues, LacksOne, Steady};
-ghost use Rattle.fits_cli.specs.Running.{EndsScript, EndStops, LineStops, PieceStops, PlainStops, ScriptStops, StopsAs};
+ghost use Rattle.fits_cli.specs.Remark.{each_remark, plain_remark, remark_by, remark_line};
+ghost use Rattle.fits_cli.specs.Running.{heard, kept_of, AnswersLine, AnswersMeant, AnswersPlain, AnswersScript, Continues, LacksEach, LacksOne, Steady};
+ghost use Rattle.fits_cli.specs.Running.{EndsScript, EndStops, LineStops, MeantStops, PieceStops, PlainStops, ScriptStops};
 
 use crate::limits::SCRIPT_LIMIT;
 use crate::remarking::say;
-use crate::reply::{Reply, counts_as_refused, print_reply};
+use crate::reply::{Reply, counts_as_refused, print_reply, push_numbered};
 use crate::runner::Runner;
 use fits_extended::{Stands, Unmet};
 use fits_script::{LINE_LIMIT, split_far};
@@ -54,6 +54,9 @@ fn answer_line<H: Holder + Drop, O: Sink, E: Sink>(
     ensures follows { Follows runner.old.log runner.new.log }
     ensures line { OnOk result (runner.new.standing.line ≡ runner.old.standing.line + 1) }
 {
+    if let Some(queries) = runner.queries(alloc, line)? {
+        return answer_each(alloc, runner, &queries, out, told);
+    }
     match runner.stands_for(alloc, line)? {
         Stands::Itself => answer_plain(alloc, runner, line, out, told),
         Stands::Line(plain) => answer_plain(alloc, runner, &plain, out, told),
@@ -71,11 +74,10 @@ fn answer_unmet<H: Holder + Drop, O: Sink, E: Sink>(
     told: &mut Option<E>,
 ) -> Result<(), Fault>
     requires { runner.old.standing.line + 1 < 2 ^ 64 }
-    ensures ok { OnOk result (AnswersAs (answer_of runner.old.standing (Err why))
-        (remark_of runner.old.standing (Err why)) (left_of runner.old.standing (Err why)) runner.new.standing
+    ensures ok { OnOk result (AnswersMeant (of_none why) runner.old.standing runner.new.standing
         (heard (O.state out.old) (option_map E.state told.old))
         (heard (O.state out.new) (option_map E.state told.new))) }
-    ensures err { IfErr result (StopsAs (answer_of runner.old.standing (Err why)) ⊥ ⊥
+    ensures err { IfErr result (MeantStops (of_none why) runner.old.standing
         (heard (O.state out.old) (option_map E.state told.old))
         (heard (O.state out.new) (option_map E.state told.new))) }
     ensures said { OnOk result (PrintsSome (O.state out.old) (O.state out.new)) }
@@ -131,16 +133,12 @@ fn answer_plains<H: Holder + Drop, O: Sink, E: Sink>(
     told: &mut Option<E>,
 ) -> Result<(), Fault>
     requires { runner.old.standing.line + 1 < 2 ^ 64 }
-    ensures ok { Steady H.whole runner.new.log → OnOk result (AnswersAs
-        (answer_of runner.old.standing (Ok (lines_in plains.now)))
-        (remark_of runner.old.standing (Ok (lines_in plains.now)))
-        (left_of runner.old.standing (Ok (lines_in plains.now))) runner.new.standing
+    ensures ok { Steady H.whole runner.new.log → OnOk result (AnswersMeant (in_turn (lines_in plains.now))
+        runner.old.standing runner.new.standing
         (heard (O.state out.old) (option_map E.state told.old))
         (heard (O.state out.new) (option_map E.state told.new))) }
-    ensures err { Steady H.whole runner.new.log → IfErr result (StopsAs
-        (answer_of runner.old.standing (Ok (lines_in plains.now)))
-        (AtOne PlainNeedsMemory runner.old.standing (lines_in plains.now))
-        (AtOne PlainWantsPixels runner.old.standing (lines_in plains.now))
+    ensures err { Steady H.whole runner.new.log → IfErr result (MeantStops (in_turn (lines_in plains.now))
+        runner.old.standing
         (heard (O.state out.old) (option_map E.state told.old))
         (heard (O.state out.new) (option_map E.state told.new))) }
     ensures quiet { OnOk result (runner.new.log.failures ≡ runner.old.log.failures) }
@@ -157,6 +155,96 @@ fn answer_plains<H: Holder + Drop, O: Sink, E: Sink>(
     print_answer(out, number, &reply, wanted && counts_as_refused(&reply))?;
     say(told, number, line, &reply);
     Ok(())
+}
+
+// Answers plain queries of each HDU that one line stands for.
+fn answer_each<H: Holder + Drop, O: Sink, E: Sink>(
+    alloc: Global,
+    runner: &mut Runner<H>,
+    plains: &[Vec<u8>],
+    out: &mut O,
+    told: &mut Option<E>,
+) -> Result<(), Fault>
+    requires { runner.old.standing.line + 1 < 2 ^ 64 }
+    ensures ok { Steady H.whole runner.new.log → OnOk result (AnswersMeant (of_each (lines_in plains.now))
+        runner.old.standing runner.new.standing
+        (heard (O.state out.old) (option_map E.state told.old))
+        (heard (O.state out.new) (option_map E.state told.new))) }
+    ensures err { Steady H.whole runner.new.log → IfErr result (MeantStops (of_each (lines_in plains.now))
+        runner.old.standing
+        (heard (O.state out.old) (option_map E.state told.old))
+        (heard (O.state out.new) (option_map E.state told.new))) }
+    ensures quiet { OnOk result (runner.new.log.failures ≡ runner.old.log.failures) }
+    ensures counted { IfErr result (FaultCounts runner.old.log.failures runner.new.log.failures) }
+    ensures said { OnOk result (PrintsSome (O.state out.old) (O.state out.new)) }
+    ensures leaves { IfErr result (LinesLeave (O.state out.old) (O.state out.new)) }
+    ensures once { H.whole ≡ true → IfErr result IsOnce }
+    ensures follows { Follows runner.old.log runner.new.log }
+    ensures line { OnOk result (runner.new.standing.line ≡ runner.old.standing.line + 1) }
+{
+    let number = runner.line();
+    let wanted = told.is_some();
+    let (reply, line) = reply_of_each(alloc, runner, wanted, plains)?;
+    print_answer(out, number, &reply, wanted && counts_as_refused(&reply))?;
+    say(told, number, line, &reply);
+    Ok(())
+}
+
+// Asks the plain queries of each HDU that one line stands for, and goes on to the next line. The
+// reply has the answers of those that are done, the number of its HDU before each; where each is
+// refused it is that to the first, which stands beside it then.
+fn reply_of_each<'a, H: Holder + Drop>(
+    alloc: Global,
+    runner: &mut Runner<H>,
+    wanted: bool,
+    plains: &'a [Vec<u8>],
+) -> Result<(Reply<'a>, &'a [u8]), Fault>
+    requires { runner.old.standing.line + 1 < 2 ^ 64 }
+    ensures text { Steady H.whole runner.new.log → IfOk result (λ it. reply_text runner.old.standing.line it.0
+        ≡ each_answer runner.old.standing (lines_in plains.now)) }
+    ensures remark { Steady H.whole runner.new.log → IfOk result (λ it. wanted ≡ true
+        → remark_line runner.old.standing.line (remark_by it.1.now it.0)
+        ≡ each_remark runner.old.standing (lines_in plains.now)) }
+    ensures left { Steady H.whole runner.new.log → OnOk result
+        (runner.new.standing ≡ each_left runner.old.standing (lines_in plains.now)) }
+    ensures err { Steady H.whole runner.new.log → IfErr result
+        (LacksEach runner.old.standing (lines_in plains.now)) }
+    ensures quiet { OnOk result (runner.new.log.failures ≡ runner.old.log.failures) }
+    ensures counted { IfErr result (FaultCounts runner.old.log.failures runner.new.log.failures) }
+    ensures unanswered { IfErr result IsUnanswered }
+    ensures once { H.whole ≡ true → IfErr result IsOnce }
+    ensures line { OnOk result (runner.new.standing.line ≡ runner.old.standing.line + 1) }
+    ensures follows { Follows runner.old.log runner.new.log }
+{
+    let number = runner.line();
+    let refused = runner.refused();
+    let mut text = Vec::new(alloc);
+    let mut hdu = 0;
+    let mut any = false;
+    let mut rest = plains;
+    'plains: while let Some((plain, others)) = first_of(rest) {
+        hdu += 1;
+        let reply = runner.reply(alloc, wanted, plain)?;
+        let done = push_numbered(&mut text, hdu, &reply)?;
+        any = any | done;
+        runner.hold(number, refused);
+        rest = others;
+    }
+    if any {
+        return Ok((runner.go_on(text), b""));
+    }
+    let first = first_line(plains);
+    Ok((runner.reply(alloc, wanted, first)?, first))
+}
+
+// The first of plain lines; where there is none it is empty.
+fn first_line(plains: &[Vec<u8>]) -> &[u8]
+    ensures { result.now ≡ first_line (lines_in plains.now) }
+{
+    match plains {
+        [plain, ..] => plain,
+        [] => b"",
+    }
 }
 
 // Does what plain lines say that one line stands for, each in its turn and as far as the first that
@@ -202,7 +290,7 @@ fn reply_to_last<'a, H: Holder + Drop>(
 // The first of plain lines, and the others.
 fn first_of(plains: &[Vec<u8>]) -> Option<(&[u8], &[Vec<u8>])>
     ensures some { IfSome result (λ cut. lines_in plains.now ≡ cut.0.now ∷ lines_in cut.1.now) }
-    ensures shorter { IfSome result (λ cut. length cut.1.now < length plains.now) }
+    ensures shorter { IfSome result (λ cut. length plains.now ≡ length cut.1.now + 1) }
     ensures none { IfNone result (lines_in plains.now ≡ []) }
 {
     match plains {

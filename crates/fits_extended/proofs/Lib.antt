@@ -1,6 +1,6 @@
 pub mod HistoryLemmas
 pub mod LeadLemmas
+pub mod OwnCardLemmas
 pub mod PlainsLemmas
-pub mod SameLemmas
 pub mod SayingLemmas
-pub mod WordLemmas
+pub mod ScaledLemmas

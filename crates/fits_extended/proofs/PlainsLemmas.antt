@@ -5,7 +5,7 @@ use Rattle.std.specs.declared.alloc.Global.{Global}
 use Rattle.std.specs.declared.vec.Vec.{Vec}
 use Rattle.std.proofs.lemmas.List.{append-nil}
 use Rattle.fits_passing.specs.File.{FileParts}
-use Rattle.fits_extended.specs.Stands.{both, for_each, lines_in, said_in, with_number}
+use Rattle.fits_extended.specs.Stands.{both, for_each, lines_in, said_in, with_number, with_numbers}
 use Rattle.fits_extended.specs.declared.unmet.Unmet.{Unmet}
 
 -- lines, and then others
@@ -54,3 +54,20 @@ both_unmet lines said others total why is unmet = sym (ap (λ s. both (Ok lines)
 -- and none come after the last
 pub both_last : (lines : List (List ℕ)) (others total : Result (List (List ℕ)) Unmet) → both (Ok lines) others ≡ total → others ≡ Ok [] → Ok lines ≡ total
 both_last lines others total is none = ap Ok (sym (append-nil lines)) ∙ sym (ap (both (Ok lines)) none) ∙ is
+
+-- the query of one HDU more is put to those before it
+pub with_numbers-more : (verb : List ℕ) (rest : Option (List ℕ)) (count more h : ℕ) (lines new : List (Vec ℕ Global)) (line : Vec ℕ Global) (all : List (List ℕ)) → count ≡ suc more
+    → new ≡ lines ++ line ∷ [] → line.items ≡ with_number verb h rest → lines_in lines ++ with_numbers verb rest count h ≡ all → lines_in new ++ with_numbers verb rest more (h + 1) ≡ all
+unfolding with_numbers
+with_numbers-more verb rest count more h lines new line all is added one so_far =
+    ap (λ t. t ++ with_numbers verb rest more (h + 1)) (lines_in-more lines new line added)
+    ∙ append_assoc (lines_in lines) (line.items ∷ []) (with_numbers verb rest more (h + 1))
+    ∙ ap (λ t. lines_in lines ++ (t ∷ with_numbers verb rest more (h + 1))) one
+    ∙ ap (λ n. lines_in lines ++ with_numbers verb rest n h) (sym is) ∙ so_far
+
+-- of no HDU more
+pub with_numbers-last : (verb : List ℕ) (rest : Option (List ℕ)) (count h : ℕ) (lines : List (Vec ℕ Global)) (all : List (List ℕ)) → count ≡ 0
+    → lines_in lines ++ with_numbers verb rest count h ≡ all → lines_in lines ≡ all
+unfolding with_numbers
+with_numbers-last verb rest count h lines all none so_far =
+    sym (append-nil (lines_in lines)) ∙ ap (λ n. lines_in lines ++ with_numbers verb rest n h) (sym none) ∙ so_far

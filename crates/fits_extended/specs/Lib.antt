@@ -1,3 +1,5 @@
+pub mod Numbers
+pub mod OwnCard
 pub mod Same
 pub mod Saying
 pub mod Stands

@@ -1,19 +1,9 @@
 -- Values that are the same, however they are spelled (own).
-use Rattle.std.specs.Prelude.{ℕ, ◌&&◌, ◌||◌, Bool, true, false, not, ℤ, List, Option, None, Some, if◌then◌else◌}
+use Rattle.std.specs.Prelude.{ℕ, ◌&&◌, Bool, true, false, not, List, if◌then◌else◌}
 use Rattle.std.specs.Str.{bytes_eq}
-use Rattle.fits_rules.specs.Reads.{has_64_bits}
-use Rattle.fits_value.specs.Says.{integer_in, says_number}
 use Rattle.fits_value.specs.declared.value.Value.{Value}
 use Rattle.fits_value.specs.declared.value.Value.TheVariants.{Undefined, Logical, Integer, Real, Complex, Str}
-
--- one text is an integer of 64 bits, and the other denotes its number
-abbrev pub denotes_integer : List ℕ → Option ℤ → Bool
-denotes_integer text None = false
-denotes_integer text (Some number) = has_64_bits number && says_number text number
-
--- two numbers are spelled alike, or one is an integer of 64 bits and the other denotes its number (4.2.3, 4.2.4)
-abbrev pub is_same_number : List ℕ → List ℕ → Bool
-is_same_number a b = bytes_eq a b || (denotes_integer b (integer_in a) || denotes_integer a (integer_in b))
+use Rattle.fits_extended.specs.Numbers.{denote_same}
 
 -- a value is undefined (4.1.2.3)
 abbrev pub is_undefined : Value → Bool
@@ -27,13 +17,13 @@ is_flag flag value = false
 
 -- it is this number
 abbrev pub is_this_number : List ℕ → Value → Bool
-is_this_number text (Integer other) = is_same_number text other
-is_this_number text (Real other) = is_same_number text other
+is_this_number text (Integer other) = denote_same text other
+is_this_number text (Real other) = denote_same text other
 is_this_number text value = false
 
 -- it is this complex number (4.2.5)
 abbrev pub is_pair : List ℕ → List ℕ → Value → Bool
-is_pair real imaginary (Complex a b) = is_same_number real a && is_same_number imaginary b
+is_pair real imaginary (Complex a b) = denote_same real a && denote_same imaginary b
 is_pair real imaginary value = false
 
 -- it is this string (4.2.1)

@@ -4,9 +4,11 @@ use Rattle.std.specs.declared.alloc.Global.{Global}
 use Rattle.std.specs.declared.vec.Vec.{Vec}
 use Rattle.std.specs.Fmt.{decimal}
 use Rattle.std.specs.List.{list_all}
+use Rattle.std.specs.Option.{option_map}
 use Rattle.std.specs.Str.{bytes_eq}
 use Rattle.fits_value.specs.Says.{field_says, says_number}
 use Rattle.fits_value.specs.Spelling.{doubled, is_space}
+use Rattle.fits_value.specs.Written.{characters_of}
 use Rattle.fits_value.specs.declared.value.Value.{Value}
 use Rattle.fits_value.specs.declared.value.Value.TheVariants.{Undefined, Logical, Integer, Real, Complex, Str}
 use Rattle.fits_passing.specs.File.{FileParts}
@@ -16,8 +18,11 @@ use Rattle.fits_card.specs.Card.{has_value}
 use Rattle.fits_card.specs.Name.{is_settable}
 use Rattle.fits_session.specs.Query.{card_count_in, card_in, positions_in, value_in}
 use Rattle.fits_script.specs.Words.{after_next, after_word, first_word, name_of_text, number_of_word}
+use Rattle.fits_tell.specs.Asked.{after_comma, before_comma, is_version}
+use Rattle.fits_extended.specs.OwnCard.{comment_card, longer_field, open_card, own_ending}
 use Rattle.fits_extended.specs.Same.{is_same_value, is_text}
-use Rattle.fits_extended.specs.Words.{after_comma, before_comma, extended_verb_of, is_at_name, is_for_each, keyword_of, may_stand, new_name, next_of}
+use Rattle.fits_extended.specs.Words.{extended_verb_of, is_at_name, is_for_each, is_query_of_each, keyword_of, may_stand, new_name, next_of}
+use Rattle.fits_extended.specs.declared.ending.Ending.{Ending}
 use Rattle.fits_extended.specs.declared.extended_verb.ExtendedVerb.{ExtendedVerb}
 use Rattle.fits_extended.specs.declared.extended_verb.ExtendedVerb.TheVariants.{Add, History, Keyword}
 use Rattle.fits_extended.specs.declared.keyword_verb.KeywordVerb.{KeywordVerb}
@@ -76,21 +81,6 @@ staying None had = comment_text had
 abbrev pub noted : List ℕ → List ℕ
 noted [] = []
 noted (byte ∷ bytes) = codes " / " ++ (byte ∷ bytes)
-
--- `val H NAME FIELD` of a keyword with this value and comment
-abbrev pub valued : ℕ → List ℕ → List ℕ → Option (List ℕ) → Result (Value × Option (List ℕ)) Refusal → List ℕ
-valued h word field comment (Ok had) = set_line h word field ++ staying comment had.1
-valued h word field comment (Err why) = get_line h word
-
--- the same by what FIELD says: one that can't be read is no command of `set` either
-abbrev pub value_line : FileParts → ℕ → List ℕ → List ℕ → Option (Value × Option (List ℕ)) → List ℕ
-value_line file h word field None = set_line h word field
-value_line file h word field (Some said) = valued h word field said.1 (value_in file h (name_of_text word))
-
--- `note H NAME COMMENT` of a keyword with this value
-abbrev pub commented : ℕ → List ℕ → List ℕ → Result (Value × Option (List ℕ)) Refusal → List ℕ
-commented h word text (Ok had) = set_line h word (field_text had.0) ++ noted text
-commented h word text (Err why) = get_line h word
 
 -- nothing is to be done where this is so
 abbrev pub met_if : Bool → Result (List ℕ) Unmet
@@ -160,6 +150,47 @@ or_none (Err why) = []
 -- the place of the first card of a name that has a value in HDU h, and that card
 abbrev pub lead_in : FileParts → ℕ → List ℕ → Option (ℕ × List ℕ)
 lead_in file h name = lead_among file h (or_none (positions_in file h name))
+
+-- that place alone
+abbrev pub place_of_lead : FileParts → ℕ → List ℕ → Option ℕ
+place_of_lead file h name = option_map (λ lead. lead.0) (lead_in file h name)
+
+-- the lines that give a keyword whose lead is at this place a string, and its comment on a card of its own. The first writes as many cards, with
+-- another text, and can be refused as `set` can; the others change what the last two of them say, and can't then: no card moves or comes,
+-- and none of them was a string that says something of the data
+abbrev pub own_card_lines : ℕ → List ℕ → Value × Option (List ℕ) → ℕ → Ending → List (List ℕ)
+own_card_lines h word said place ending =
+    set_line h word (longer_field (characters_of said.0) ending)
+    ∷ card_line (codes "put") h (place + ending.count) (comment_card ending (unwrap_or said.1 []))
+    ∷ card_line (codes "put") h (place + ending.count - 1) (open_card ending)
+    ∷ []
+
+-- a line, or these where the comment has a card of its own and the keyword has a lead
+abbrev pub unless_own : List ℕ → ℕ → List ℕ → Value × Option (List ℕ) → Option Ending → Option ℕ → List (List ℕ)
+unless_own line h word said None place = line ∷ []
+unless_own line h word said (Some ending) None = line ∷ []
+unless_own line h word said (Some ending) (Some place) = own_card_lines h word said place ending
+
+-- `set H NAME FIELD`, or these lines, by what FIELD says
+abbrev pub set_lines : FileParts → ℕ → List ℕ → List ℕ → Option (Value × Option (List ℕ)) → List (List ℕ)
+set_lines file h word field None = set_line h word field ∷ []
+set_lines file h word field (Some said) =
+    unless_own (set_line h word field) h word said (own_ending (name_of_text word) said.0 said.1) (place_of_lead file h (name_of_text word))
+
+-- `val H NAME FIELD` of a keyword with this value and comment
+abbrev pub valued : FileParts → ℕ → List ℕ → List ℕ → Option (List ℕ) → Result (Value × Option (List ℕ)) Refusal → List (List ℕ)
+valued file h word field comment (Ok had) = let whole = field ++ staying comment had.1 in set_lines file h word whole (field_says whole)
+valued file h word field comment (Err why) = get_line h word ∷ []
+
+-- the same by what FIELD says: one that can't be read is no command of `set` either
+abbrev pub value_lines : FileParts → ℕ → List ℕ → List ℕ → Option (Value × Option (List ℕ)) → List (List ℕ)
+value_lines file h word field None = set_line h word field ∷ []
+value_lines file h word field (Some said) = valued file h word field said.1 (value_in file h (name_of_text word))
+
+-- `note H NAME COMMENT` of a keyword with this value
+abbrev pub commented : FileParts → ℕ → List ℕ → List ℕ → Result (Value × Option (List ℕ)) Refusal → List (List ℕ)
+commented file h word text (Ok had) = let whole = field_text had.0 ++ noted text in set_lines file h word whole (field_says whole)
+commented file h word text (Err why) = get_line h word ∷ []
 
 -- a card under another name (4.1.2.1)
 abbrev pub under_name : List ℕ → List ℕ → List ℕ
@@ -247,27 +278,27 @@ abbrev pub history_by : FileParts → Option (List ℕ) → Option ℕ → List 
 history_by file rest None = with_verb (codes "get") rest ∷ []
 history_by file rest (Some h) = history file h (unwrap_or (after_next rest) []) (card_count_in file h)
 
--- what is said of a keyword, by what follows it
-unfoldable pub said_for : FileParts → KeywordVerb → ℕ → List ℕ → Option (List ℕ) → Result (List ℕ) Unmet
-said_for file verb.Value h word rest = let field = unwrap_or rest [] in Ok (value_line file h word field (field_says field))
-said_for file verb.Note h word rest = Ok (commented h word (unwrap_or rest []) (value_in file h (name_of_text word)))
-said_for file verb.Rename h word rest = renaming_by file h word rest (new_name rest)
-said_for file verb.Want h word rest = wanted_by file h word rest
-said_for file verb.Lack h word rest = lacking_by file h word rest
-
--- the same of the keyword that comes next; where none does it is as little a command as `get` is
-abbrev pub said_next : FileParts → KeywordVerb → Option (List ℕ) → Option (ℕ × List ℕ × Option (List ℕ)) → Result (List ℕ) Unmet
-said_next file verb rest None = Ok (with_verb (codes "get") rest)
-said_next file verb rest (Some key) = said_for file verb key.0 key.1 key.2
-
 -- a line that stands for one alone
 abbrev pub as_one : Result (List ℕ) Unmet → Result (List (List ℕ)) Unmet
 as_one (Ok line) = Ok (line ∷ [])
 as_one (Err why) = Err why
 
+-- what is said of a keyword, by what follows it
+unfoldable pub said_for : FileParts → KeywordVerb → ℕ → List ℕ → Option (List ℕ) → Result (List (List ℕ)) Unmet
+said_for file verb.Value h word rest = let field = unwrap_or rest [] in Ok (value_lines file h word field (field_says field))
+said_for file verb.Note h word rest = Ok (commented file h word (unwrap_or rest []) (value_in file h (name_of_text word)))
+said_for file verb.Rename h word rest = as_one (renaming_by file h word rest (new_name rest))
+said_for file verb.Want h word rest = as_one (wanted_by file h word rest)
+said_for file verb.Lack h word rest = as_one (lacking_by file h word rest)
+
+-- the same of the keyword that comes next; where none does it is as little a command as `get` is
+abbrev pub said_next : FileParts → KeywordVerb → Option (List ℕ) → Option (ℕ × List ℕ × Option (List ℕ)) → Result (List (List ℕ)) Unmet
+said_next file verb rest None = Ok (with_verb (codes "get") rest ∷ [])
+said_next file verb rest (Some key) = said_for file verb key.0 key.1 key.2
+
 -- what an extended verb says, by what follows it
 abbrev pub said_of_verb : FileParts → ExtendedVerb → Option (List ℕ) → Result (List (List ℕ)) Unmet
-said_of_verb file (Keyword verb) rest = as_one (said_next file verb rest (keyword_of rest))
+said_of_verb file (Keyword verb) rest = said_next file verb rest (keyword_of rest)
 said_of_verb file Add rest = Ok (adding_by file rest (number_of_word (next_of rest)) ∷ [])
 said_of_verb file History rest = Ok (history_by file rest (number_of_word (next_of rest)))
 
@@ -280,13 +311,7 @@ said_by_verb file (Some verb) line = said_of_verb file verb (after_word line)
 unfoldable pub said_in : FileParts → List ℕ → Result (List (List ℕ)) Unmet
 said_in file line = said_by_verb file (extended_verb_of (first_word line)) line
 
--- a value that is the version of an extension is this: it denotes it, or is no number and it is 1 (4.4.2.6)
-abbrev pub is_version : ℕ → Value → Bool
-is_version version (Integer text) = says_number text (pos version)
-is_version version (Real text) = says_number text (pos version)
-is_version version value = version == 1
-
--- the same of what EXTVER says, if it says something
+-- what EXTVER says is this version: where it says nothing it is 1
 abbrev pub has_version : ℕ → Result (Value × Option (List ℕ)) Refusal → Bool
 has_version version (Ok said) = is_version version said.0
 has_version version (Err why) = version == 1
@@ -345,6 +370,18 @@ unfoldable pub for_each : FileParts → List ℕ → Option (List ℕ) → ℕ �
 for_each file verb rest zero h = Ok []
 for_each file verb rest (suc more) h = both (said_in file (with_number verb h rest)) (for_each file verb rest more (h + 1))
 
+-- `VERB H`, and what follows, of each of so many HDUs from this number on
+unfoldable pub with_numbers : List ℕ → Option (List ℕ) → ℕ → ℕ → List (List ℕ)
+with_numbers verb rest zero h = []
+with_numbers verb rest (suc more) h = with_number verb h rest ∷ with_numbers verb rest more (h + 1)
+
+-- the plain queries of each HDU, if a line is one of each
+unfoldable pub queries_for : FileParts → List ℕ → Option (List (List ℕ))
+queries_for file line =
+    if may_stand line && is_query_of_each line
+    then Some (with_numbers (first_word line) (after_next (after_word line)) (length file.hdus) 1)
+    else None
+
 -- what a line stands for that may stand for others, where every line is to be done and where not
 abbrev pub standing_in : Bool → FileParts → List ℕ → Result (List (List ℕ)) Unmet
 standing_in whole file line =
@@ -367,3 +404,8 @@ stood line Itself = Ok (line ∷ [])
 stood line (Line plain) = Ok (plain.items ∷ [])
 stood line (Lines plains) = Ok (lines_in plains.items)
 stood line (UnmetStands why) = Err why
+
+-- the lines of a list, if there is one
+abbrev pub lines_if : Option (Vec (Vec ℕ Global) Global) → Option (List (List ℕ))
+lines_if None = None
+lines_if (Some lines) = Some (lines_in lines.items)

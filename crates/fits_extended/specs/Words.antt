@@ -48,16 +48,6 @@ keyword_of rest = do
 unfoldable pub new_name : Option (List ℕ) → Option (List ℕ)
 new_name rest = if is_some (after_next rest) then None else short_word (next_of rest)
 
--- what stands before the first comma, or all where there is none
-unfoldable pub before_comma : List ℕ → List ℕ
-before_comma [] = []
-before_comma (byte ∷ bytes) = if byte == 44 then [] else byte ∷ before_comma bytes
-
--- what stands after it, or nothing
-unfoldable pub after_comma : List ℕ → List ℕ
-after_comma [] = []
-after_comma (byte ∷ bytes) = if byte == 44 then bytes else after_comma bytes
-
 -- a word that stands for the number of an HDU: `@`, and the name of an extension
 abbrev pub is_at_name : List ℕ → Bool
 is_at_name [] = false
@@ -83,6 +73,16 @@ is_plain_edit word =
 unfoldable pub is_for_each : List ℕ → Bool
 is_for_each line =
     is_star (next_of (after_word line)) && (is_some (extended_verb_of (first_word line)) || is_plain_edit (first_word line))
+
+-- a plain verb of a query that each HDU may be asked
+abbrev pub is_plain_query : List ℕ → Bool
+is_plain_query word =
+    bytes_eq word (codes "get") || (bytes_eq word (codes "pos") || (bytes_eq word (codes "stat") || (bytes_eq word (codes "rect")
+    || (bytes_eq word (codes "sum") || bytes_eq word (codes "kept")))))
+
+-- a line is a query of each HDU
+unfoldable pub is_query_of_each : List ℕ → Bool
+is_query_of_each line = is_star (next_of (after_word line)) && is_plain_query (first_word line)
 
 -- it may stand for another: it is within the limit, and has one
 unfoldable pub may_stand : List ℕ → Bool

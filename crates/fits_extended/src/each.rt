@@ -1,16 +1,17 @@
 //! Lines for each HDU.
-ghost use Rattle.std.specs.Prelude.{◌≡◌, ℕ, List, length, Err, IfNone, IfOk, IfSome, Ok};
+ghost use Rattle.std.specs.Prelude.{◌≡◌, ℕ, List, length, true, Err, IfNone, IfOk, IfSome, Ok, OnErr};
 ghost use Rattle.std.specs.Option.{option_copied};
 ghost use Rattle.fits_session.specs.Away.{LieStill};
 ghost use Rattle.fits_session.specs.Session.{file_of, marked_of};
 ghost use Rattle.fits_script.specs.Words.{after_next, after_word, first_word};
-ghost use Rattle.fits_extended.specs.Stands.{both, for_each, lines_in, stood};
+ghost use Rattle.fits_extended.specs.Stands.{both, for_each, lines_if, lines_in, queries_for, stood, with_numbers};
+ghost use Rattle.fits_extended.specs.Words.{may_stand};
 
 use crate::plain_text::with_number;
 use crate::standing_for::said_in;
 use crate::stands::Stands;
 use crate::unmet::Unmet;
-use crate::words::next_of;
+use crate::words::{is_query_of_each, may_stand, next_of};
 use fits_script::cut_word;
 use fits_session::{Holder, Session};
 use std::alloc::{AllocError, Global};
@@ -60,4 +61,41 @@ fn push_said(
         Stands::Unmet(why) => return Ok(Some(why)),
     }
     Ok(None)
+}
+
+/// The plain queries of each HDU, if a line is one of each. No card is read.
+#[tactic(auto, unfolding(crate::specs::Stands::queries_for))]
+pub fn queries_of_each<H: Holder + Drop>(
+    alloc: Global,
+    session: &Session<H>,
+    line: &[u8],
+) -> Result<Option<Vec<Vec<u8>>>, AllocError>
+    ensures ok { IfOk result (λ it. lines_if it ≡ queries_for (file_of session.now) line.now) }
+    ensures err { OnErr result (may_stand line.now ≡ true) }
+{
+    if !may_stand(line) || !is_query_of_each(line) {
+        return Ok(None);
+    }
+    let (verb, rest) = cut_word(line);
+    let (_, more) = next_of(rest);
+    Ok(Some(with_numbers(alloc, verb, more, session.hdus())?))
+}
+
+// `VERB H`, and what follows, of each of so many HDUs.
+fn with_numbers(
+    alloc: Global,
+    verb: &[u8],
+    rest: Option<&[u8]>,
+    count: usize,
+) -> Result<Vec<Vec<u8>>, AllocError>
+    ensures { IfOk result (λ lines. lines_in lines.items
+        ≡ with_numbers verb.now (option_copied rest.entry) count 1) }
+{
+    let mut lines = Vec::new(alloc);
+    let mut before = 0;
+    'hdus: while before < count {
+        lines.push(with_number(alloc, verb, before + 1, rest)?)?;
+        before += 1;
+    }
+    Ok(lines)
 }

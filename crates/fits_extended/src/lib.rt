@@ -2,14 +2,21 @@
 #![tactic(auto)]
 
 mod adding;
+mod digit_run;
+mod digit_sum;
 mod each;
+mod ending;
 mod extended_verb;
 mod guarding;
 mod history;
 mod keyword_verb;
 mod naming;
+mod number_parts;
+mod number_text;
+mod own_card;
 mod plain_text;
 mod renaming;
+mod same_number;
 mod same_value;
 mod saying;
 mod standing_for;
@@ -17,6 +24,7 @@ mod stands;
 mod unmet;
 mod words;
 
+pub use each::queries_of_each;
 pub use extended_verb::ExtendedVerb;
 pub use keyword_verb::KeywordVerb;
 pub use standing_for::plain_line;

@@ -2,16 +2,16 @@
 ghost use Rattle.std.specs.Prelude.{◌≡◌, IfNone, IfOk, IfSome};
 ghost use Rattle.fits_session.specs.Away.{LieStill};
 ghost use Rattle.fits_session.specs.Session.{file_of, marked_of};
-ghost use Rattle.fits_extended.specs.Stands.{has_name, has_version, is_called, is_version, number_at, number_called, numbered};
+ghost use Rattle.fits_extended.specs.Stands.{has_name, has_version, is_called, number_at, number_called, numbered};
 
 use crate::plain_text::with_number;
 use crate::same_value::is_text;
 use crate::saying::{Said, said_of};
-use crate::words::{cut_version, is_at_name, next_of};
+use crate::words::{is_at_name, next_of};
 use fits_card::Name;
 use fits_script::{cut_word, number_of_word};
 use fits_session::{Holder, Session};
-use fits_value::{Value, denotes};
+use fits_tell::{cut_version, is_version};
 use std::alloc::{AllocError, Global};
 
 const EXTNAME: Name = Name(*b"EXTNAME ");
@@ -121,16 +121,5 @@ fn has_version(version: usize, said: &Said) -> bool
     match said {
         Ok((value, _)) => is_version(version, value),
         Err(_) => version == 1,
-    }
-}
-
-// Whether a value is this version.
-fn is_version(version: usize, value: &Value) -> bool
-    ensures { result ≡ is_version version value.now }
-{
-    match value {
-        Value::Integer(text) => denotes(text.as_bytes(), version as i128),
-        Value::Real(text) => denotes(text.as_bytes(), version as i128),
-        _ => version == 1,
     }
 }

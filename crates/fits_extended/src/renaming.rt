@@ -78,8 +78,8 @@ fn under_name(name: &Name, card: &Card) -> Card
     Card(bytes)
 }
 
-// The place of the first card of a name that has a value, and that card.
-fn lead_of<H: Holder + Drop>(
+/// The place of the first card of a name that has a value, and that card.
+pub(crate) fn lead_of<H: Holder + Drop>(
     alloc: Global,
     session: &mut Session<H>,
     hdu: usize,

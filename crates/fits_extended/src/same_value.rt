@@ -1,11 +1,11 @@
 //! Whether values are the same, however they are spelled.
 ghost use Rattle.std.specs.Prelude.{◌≡◌, not, if◌then◌else◌};
 ghost use Rattle.std.specs.Str.{bytes_eq};
-ghost use Rattle.fits_value.specs.Says.{integer_in};
-ghost use Rattle.fits_extended.specs.Same.{denotes_integer, is_flag, is_pair, is_same_number, is_same_value, is_text, is_this_number, is_undefined};
+ghost use Rattle.fits_extended.specs.Same.{is_flag, is_pair, is_same_value, is_text, is_this_number, is_undefined};
 ghost use Rattle.fits_extended.specs.Stands.{has_comment};
 
-use fits_value::{Text, Value, denotes, integer_of};
+use crate::same_number::is_same_number;
+use fits_value::{Text, Value};
 
 /// Whether two values are of one type, or both numbers, and the same.
 pub(crate) fn is_same_value(value: &Value, other: &Value) -> bool
@@ -86,23 +86,6 @@ pub(crate) fn is_as_wanted(wanted: bool, so: bool) -> bool
     ensures { result ≡ if wanted then so else not so }
 {
     if wanted { so } else { !so }
-}
-
-// Whether two numbers are spelled alike, or one is an integer of 64 bits and the other denotes it.
-fn is_same_number(a: &[u8], b: &[u8]) -> bool
-    ensures { result ≡ is_same_number a.now b.now }
-{
-    is_same_text(a, b) || denotes_integer(b, a) || denotes_integer(a, b)
-}
-
-// Whether a text denotes the number of another one, which is an integer of 64 bits.
-fn denotes_integer(text: &[u8], integer: &[u8]) -> bool
-    ensures { result ≡ denotes_integer text.now (integer_in integer.now) }
-{
-    match integer_of(integer) {
-        Some(number) => denotes(text, number as i128),
-        None => false,
-    }
 }
 
 /// Whether a comment is as it is wanted, if one is.

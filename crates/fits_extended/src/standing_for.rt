@@ -1,12 +1,12 @@
 //! Which plain lines an extended line stands for.
-ghost use Rattle.std.specs.Prelude.{◌≡◌, ◌≤◌, ◌++◌, IfOk, List, OnErr, OnOk, length, true, unwrap_or, ℕ};
+ghost use Rattle.std.specs.Prelude.{◌≡◌, ◌≤◌, ◌++◌, IfOk, List, Ok, OnErr, OnOk, length, true, unwrap_or, ℕ};
 ghost use Rattle.std.specs.Option.{option_copied};
 ghost use Rattle.fits_session.specs.Away.{LieStill};
 ghost use Rattle.fits_session.specs.Query.{value_in};
 ghost use Rattle.fits_session.specs.Session.{file_of, marked_of};
 ghost use Rattle.fits_script.specs.Words.{name_of_text};
 ghost use Rattle.fits_value.specs.Says.{field_says};
-ghost use Rattle.fits_extended.specs.Stands.{as_one, comment_text, commented, said_for, said_in, said_next, stands_for, staying, stood, value_line};
+ghost use Rattle.fits_extended.specs.Stands.{comment_text, commented, field_text, noted, said_for, said_in, said_next, stands_for, staying, stood, value_lines};
 ghost use Rattle.fits_extended.specs.Words.{keyword_of, may_stand};
 
 use crate::adding::add_line;
@@ -16,6 +16,7 @@ use crate::guarding::{lacking, wanted};
 use crate::history::history_lines;
 use crate::keyword_verb::KeywordVerb;
 use crate::naming::numbered;
+use crate::own_card::set_lines;
 use crate::plain_text::{get_line, push_field, push_note, set_line, with_verb};
 use crate::renaming::renaming;
 use crate::saying::said_of;
@@ -24,7 +25,7 @@ use crate::words::{is_for_each, keyword_of, may_stand, text_of};
 use fits_script::{cut_word, padded_name};
 use fits_session::{Holder, Session};
 use fits_tell::push_both;
-use fits_value::{Text, read_field};
+use fits_value::{Text, Value, read_field};
 use std::alloc::{AllocError, Global};
 
 /// What a line stands for in a file as it is; one for each HDU is taken where every line is to be
@@ -87,7 +88,7 @@ fn said_next<H: Holder + Drop>(
     rest: Option<&[u8]>,
 ) -> Result<Stands, AllocError>
     ensures ok { IfOk result (λ it. (line : List ℕ) → stood line it
-        ≡ as_one (said_next (file_of session.old) verb (option_copied rest.entry) (keyword_of (option_copied rest.entry)))) }
+        ≡ said_next (file_of session.old) verb (option_copied rest.entry) (keyword_of (option_copied rest.entry))) }
     ensures same { marked_of session.new ≡ marked_of session.old }
     ensures stays { LieStill session.old.hdus session.new.hdus }
 {
@@ -109,19 +110,13 @@ fn said_for<H: Holder + Drop>(
 ) -> Result<Stands, AllocError>
     requires { length word.now ≤ 8 }
     ensures ok { IfOk result (λ it. (line : List ℕ) → stood line it
-        ≡ as_one (said_for (file_of session.old) verb hdu word.now (option_copied rest.entry))) }
+        ≡ said_for (file_of session.old) verb hdu word.now (option_copied rest.entry)) }
     ensures same { marked_of session.new ≡ marked_of session.old }
     ensures stays { LieStill session.old.hdus session.new.hdus }
 {
     match verb {
-        KeywordVerb::Value => Ok(Stands::Line(value_line(
-            alloc,
-            session,
-            hdu,
-            word,
-            text_of(rest),
-        )?)),
-        KeywordVerb::Note => Ok(Stands::Line(note_line(alloc, session, hdu, word, text_of(rest))?)),
+        KeywordVerb::Value => value_lines(alloc, session, hdu, word, text_of(rest)),
+        KeywordVerb::Note => note_lines(alloc, session, hdu, word, text_of(rest)),
         KeywordVerb::Rename => renaming(alloc, session, hdu, word, rest),
         KeywordVerb::Want => wanted(alloc, session, hdu, word, rest),
         KeywordVerb::Lack => lacking(alloc, session, hdu, word, rest),
@@ -129,28 +124,42 @@ fn said_for<H: Holder + Drop>(
 }
 
 // `val H NAME FIELD`
-fn value_line<H: Holder + Drop>(
+fn value_lines<H: Holder + Drop>(
     alloc: Global,
     session: &mut Session<H>,
     hdu: usize,
     word: &[u8],
     field: &[u8],
-) -> Result<Vec<u8>, AllocError>
+) -> Result<Stands, AllocError>
     requires { length word.now ≤ 8 }
-    ensures ok { IfOk result (λ line. line.items
-        ≡ value_line (file_of session.old) hdu word.now field.now (field_says field.now)) }
+    ensures ok { IfOk result (λ it. (line : List ℕ) → stood line it
+        ≡ Ok (value_lines (file_of session.old) hdu word.now field.now (field_says field.now))) }
     ensures same { marked_of session.new ≡ marked_of session.old }
     ensures stays { LieStill session.old.hdus session.new.hdus }
 {
     let Some((_, comment)) = read_field(alloc, field)? else {
-        return set_line(alloc, hdu, word, field);
+        return Ok(Stands::Line(set_line(alloc, hdu, word, field)?));
     };
     let Ok((_, had)) = said_of(session, hdu, &padded_name(word))? else {
-        return get_line(alloc, hdu, word);
+        return Ok(Stands::Line(get_line(alloc, hdu, word)?));
     };
-    let mut line = set_line(alloc, hdu, word, field)?;
-    push_staying(&mut line, &comment, &had)?;
-    Ok(line)
+    let whole = staying_field(alloc, field, &comment, &had)?;
+    set_lines(alloc, session, hdu, word, &whole)
+}
+
+// A field with the comment that stays.
+fn staying_field(
+    alloc: Global,
+    field: &[u8],
+    said: &Option<Text>,
+    had: &Option<Text>,
+) -> Result<Vec<u8>, AllocError>
+    ensures { IfOk result (λ whole. whole.items ≡ field.now ++ staying said.now had.now) }
+{
+    let mut whole = Vec::new(alloc);
+    whole.extend_from_slice(field)?;
+    push_staying(&mut whole, said, had)?;
+    Ok(whole)
 }
 
 // Adds the comment that stays, where a line says none.
@@ -178,24 +187,32 @@ fn push_comment(line: &mut Vec<u8>, comment: &Option<Text>) -> Result<(), AllocE
 }
 
 // `note H NAME COMMENT`
-fn note_line<H: Holder + Drop>(
+fn note_lines<H: Holder + Drop>(
     alloc: Global,
     session: &mut Session<H>,
     hdu: usize,
     word: &[u8],
     text: &[u8],
-) -> Result<Vec<u8>, AllocError>
+) -> Result<Stands, AllocError>
     requires { length word.now ≤ 8 }
-    ensures ok { IfOk result (λ line. line.items
-        ≡ commented hdu word.now text.now (value_in (file_of session.old) hdu (name_of_text word.now))) }
+    ensures ok { IfOk result (λ it. (line : List ℕ) → stood line it
+        ≡ Ok (commented (file_of session.old) hdu word.now text.now (value_in (file_of session.old) hdu (name_of_text word.now)))) }
     ensures same { marked_of session.new ≡ marked_of session.old }
     ensures stays { LieStill session.old.hdus session.new.hdus }
 {
     let Ok((value, _)) = said_of(session, hdu, &padded_name(word))? else {
-        return get_line(alloc, hdu, word);
+        return Ok(Stands::Line(get_line(alloc, hdu, word)?));
     };
-    let mut line = set_line(alloc, hdu, word, b"")?;
-    push_field(&mut line, &value)?;
-    push_note(&mut line, text)?;
-    Ok(line)
+    let whole = noted_field(alloc, &value, text)?;
+    set_lines(alloc, session, hdu, word, &whole)
+}
+
+// A value with a comment.
+fn noted_field(alloc: Global, value: &Value, text: &[u8]) -> Result<Vec<u8>, AllocError>
+    ensures { IfOk result (λ whole. whole.items ≡ field_text value.now ++ noted text.now) }
+{
+    let mut whole = Vec::new(alloc);
+    push_field(&mut whole, value)?;
+    push_note(&mut whole, text)?;
+    Ok(whole)
 }

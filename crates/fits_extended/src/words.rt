@@ -3,10 +3,10 @@ ghost use Rattle.std.specs.Prelude.{◌≡◌, ◌≤◌, [], length, unwrap_or,
 ghost use Rattle.std.specs.Option.{option_copied};
 ghost use Rattle.std.specs.Str.{bytes_eq};
 ghost use Rattle.fits_script.specs.Words.{after_next, first_word};
-ghost use Rattle.fits_extended.specs.Words.{after_comma, before_comma, is_at_name, is_extended, is_for_each, is_plain_edit, is_short, is_star, keyword_of, may_stand, new_name, next_of};
+ghost use Rattle.fits_extended.specs.Words.{is_at_name, is_extended, is_for_each, is_plain_edit, is_plain_query, is_query_of_each, is_short, is_star, keyword_of, may_stand, new_name, next_of};
 
 use crate::extended_verb::extended_verb_of;
-use fits_script::{LINE_LIMIT, cut_word, number_of_word, split_once};
+use fits_script::{LINE_LIMIT, cut_word, number_of_word};
 
 /// How many bytes a keyword name has at most (FITS Standard 4.0, section 4.1.2.1).
 const NAME_LEN: usize = 8;
@@ -111,16 +111,26 @@ pub(crate) fn is_for_each(line: &[u8]) -> bool
     is_star(word) && (extended_verb_of(verb).is_some() || is_plain_edit(verb))
 }
 
-/// What stands before the first comma, and after it.
-#[tactic(auto, using(crate::proofs::WordLemmas::comma_steps))]
-pub(crate) fn cut_version(text: &[u8]) -> (&[u8], &[u8])
-    ensures name { result.0.now ≡ before_comma text.now }
-    ensures version { result.1.now ≡ after_comma text.now }
+// Whether a word is a plain verb of a query that each HDU may be asked.
+fn is_plain_query(word: &[u8]) -> bool
+    ensures { result ≡ is_plain_query word.now }
 {
-    match split_once(text, b',') {
-        Some((name, version)) => (name, version),
-        None => (text, b""),
-    }
+    is_same(word, b"get")
+        || is_same(word, b"pos")
+        || is_same(word, b"stat")
+        || is_same(word, b"rect")
+        || is_same(word, b"sum")
+        || is_same(word, b"kept")
+}
+
+/// Whether a line is a query of each HDU.
+#[tactic(auto, unfolding(crate::specs::Words::is_query_of_each))]
+pub(crate) fn is_query_of_each(line: &[u8]) -> bool
+    ensures { result ≡ is_query_of_each line.now }
+{
+    let (verb, rest) = cut_word(line);
+    let (word, _) = next_of(rest);
+    is_star(word) && is_plain_query(verb)
 }
 
 /// Whether a line may stand for another.

@@ -51,4 +51,8 @@ cards_there headers (suc i) d one l =
     let back : i ≡ suc i - 1 = omega arith in
     get_or-map (λ (it : CardStore). it.header.cards) headers i d [] (omega (arith, l)) ∙ ap (λ k. (get_or headers k d).header.cards) back
 
+-- the cards of a header by its number, among headers with the same cards
+pub cards_by_number : (headers after : List (List (List ℕ))) (h number : ℕ) (cards : List (List ℕ)) → after ≡ headers → h ≡ number → cards_in after h ≡ cards → cards_in headers number ≡ cards
+cards_by_number headers after h number cards same is found = rw (← same, ← is) found
+
 pub ruleset field_steps = (lead_from, lead_to, field_said, field_nowhere, field_empty)

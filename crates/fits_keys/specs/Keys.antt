@@ -1,5 +1,5 @@
 -- What `keys` prints of a file: the values of keywords of one header, on a line (own; FITS Standard 4.0, section 4.1.2).
-use Rattle.std.specs.Prelude.{◌≡◌, ◌⊎◌, ℕ, zero, suc, List, [], ◌∷◌, ◌++◌, codes, get_or, Option, Some, None, MatchOption, if◌then◌else◌}
+use Rattle.std.specs.Prelude.{◌≡◌, ℕ, zero, suc, List, [], ◌∷◌, ◌++◌, codes, get_or, Option, Some, None, MatchOption, if◌then◌else◌}
 use Rattle.std.specs.List.{flat_map}
 use Rattle.fits_stream.specs.Stream.{SourceState, SinkState, FailsOnce, Prints, PrintsFront, StaysQuiet}
 use Rattle.fits_value.specs.Says.{long_says}
@@ -9,6 +9,7 @@ use Rattle.fits_value.specs.declared.value.Value.TheVariants.{Undefined, Logical
 use Rattle.fits_rules.specs.Lead.{lead_place}
 use Rattle.fits_passing.specs.Headers.{ShowsHeaders}
 use Rattle.fits_passing.specs.declared.open_fault.OpenFault.{OpenFault}
+use Rattle.fits_tell.specs.Asked.{number_asked}
 use Rattle.fits_tell.specs.Faults.{status_of_fault}
 use Rattle.fits_tell.specs.declared.end.End.{End}
 use Rattle.fits_tell.specs.declared.fault.Fault.{Fault}
@@ -51,9 +52,13 @@ abbrev pub cards_in : List (List (List ℕ)) → ℕ → List (List ℕ)
 cards_in headers zero = []
 cards_in headers (suc i) = get_or headers i []
 
+-- the cards of the header that is asked for
+abbrev pub cards_asked : KeyChoice → List (List (List ℕ)) → List (List ℕ)
+cards_asked choice headers = cards_in headers (number_asked headers choice.hdu)
+
 -- the line of a file, but for its name
 abbrev pub fields_line : KeyChoice → List (List (List ℕ)) → List ℕ
-fields_line choice headers = fields_of (cards_in headers choice.hdu) choice.names.items ++ codes "\n"
+fields_line choice headers = fields_of (cards_asked choice headers) choice.names.items ++ codes "\n"
 
 -- the line above: `file`, and the names
 abbrev pub heading_line : List (List ℕ) → List ℕ

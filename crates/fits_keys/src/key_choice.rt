@@ -1,9 +1,9 @@
 use fits_card::Name;
+use fits_tell::AskedHdu;
 
 /// Which keywords are asked for, of which header.
 #[derive(Drop)]
 pub struct KeyChoice {
-    /// The number of the HDU, from 1.
-    pub hdu: u64,
+    pub hdu: AskedHdu,
     pub names: Vec<Name>,
 }

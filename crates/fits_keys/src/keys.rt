@@ -1,14 +1,14 @@
 //! The run of `keys`: a line of values of keywords of a file.
 ghost use Rattle.std.specs.Prelude.{◌≡◌, ◌++◌, IfOk, IfErr, OnOk};
 ghost use Rattle.fits_passing.specs.Headers.{read_cards};
-ghost use Rattle.fits_keys.specs.Keys.{cards_in, fields_line, fields_of, KeysArePrinted, KeysEndAs, KeysStop};
+ghost use Rattle.fits_keys.specs.Keys.{cards_asked, fields_line, fields_of, KeysArePrinted, KeysEndAs, KeysStop};
 
 use crate::fields::{push_empty, push_fields};
 use crate::key_choice::KeyChoice;
 use fits_card::CardList;
 use fits_passing::{Headers, read_headers};
 use fits_stream::{Sink, Source};
-use fits_tell::{End, Fault, print_at_once};
+use fits_tell::{End, Fault, number_asked, print_at_once};
 use std::alloc::{AllocError, Global};
 
 /// Reads the headers of a file, and prints the fields of the keywords that are asked for, each after a
@@ -85,18 +85,19 @@ fn push_header(
     headers: &mut Vec<CardList>,
 ) -> Result<(), AllocError>
     ensures { OnOk result (line.new.items ≡ line.old.items
-        ++ fields_of (cards_in (read_cards headers.old.items) choice.now.hdu) choice.now.names.items) }
+        ++ fields_of (cards_asked choice.now (read_cards headers.old.items)) choice.now.names.items) }
 {
-    if choice.hdu == 0 {
+    let number = number_asked(alloc, &choice.hdu, headers)?;
+    if number == 0 {
         return push_empty(line, &choice.names);
     }
-    if choice.hdu > headers.len() as u64 {
+    if number > headers.len() as u64 {
         return push_empty(line, &choice.names);
     }
     push_fields(
         alloc,
         line,
-        &mut headers[choice.hdu as usize - 1],
+        &mut headers[number as usize - 1],
         &choice.names,
     )
 }

@@ -19,9 +19,11 @@ pub mod LongStringLemmas
 pub mod LongValueLemmas
 pub mod MarkedLemmas
 pub mod NameLemmas
+pub mod NamingLemmas
 pub mod NewLemmas
 pub mod OneValueLemmas
 pub mod OutputLemmas
+pub mod PatchLemmas
 pub mod PixelFormLemmas
 pub mod ProblemLemmas
 pub mod ReadBackLemmas

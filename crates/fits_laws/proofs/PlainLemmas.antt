@@ -6,8 +6,7 @@ use Rattle.fits_script.specs.Line.{reading_of}
 use Rattle.fits_script.specs.declared.command.Command.{Command}
 use Rattle.fits_script.specs.declared.line_reading.LineReading.{LineReading}
 use Rattle.fits_script.specs.declared.line_reading.LineReading.TheVariants.{TooLong, NoCommand, Said}
-use Rattle.fits_extended.specs.declared.unmet.Unmet.{Unmet}
-use Rattle.fits_cli.specs.Answer.{Done, Standing, after_outcome, answer_of, answer_to, done_last, left_after, left_of, line_answer, line_left, line_stands, outcome_of}
+use Rattle.fits_cli.specs.Answer.{Done, Meant, in_turn, of_each, of_none, Standing, after_outcome, answer_of, answer_to, done_last, left_after, left_of, line_answer, line_left, line_stands, outcome_of}
 use Rattle.fits_cli.specs.Output.{answers, standing_after}
 use Rattle.fits_laws.specs.Runs.{AllStand, ArePlain, IsOne, plain_lines, plain_or, unextended}
 
@@ -31,20 +30,22 @@ left_plain standing (NoCommand misfit) = refl
 left_plain standing (Said command) = outcome_plain standing command (outcome_of standing.marked command)
 
 -- a line prints and leaves what the plain line does that it stands for
-text_plain : (standing : Standing) (line : List ℕ) (stands : Result (List (List ℕ)) Unmet) → line_stands standing line ≡ stands → IsOne stands → answer_to standing line ≡ answer_to (unextended standing) (plain_or line stands)
+text_plain : (standing : Standing) (line : List ℕ) (stands : Meant) → line_stands standing line ≡ stands → IsOne stands → answer_to standing line ≡ answer_to (unextended standing) (plain_or line stands)
 unfolding answer_to done_last
-text_plain standing line (Ok []) is one = absurd one
-text_plain standing line (Ok (plain ∷ [])) is one = ap (answer_of standing) is ∙ sym (answer_plain standing (reading_of plain))
-text_plain standing line (Ok (plain ∷ (other ∷ others))) is one = absurd one
-text_plain standing line (Err why) is one = absurd one
+text_plain standing line (in_turn []) is one = absurd one
+text_plain standing line (in_turn (plain ∷ [])) is one = ap (answer_of standing) is ∙ sym (answer_plain standing (reading_of plain))
+text_plain standing line (in_turn (plain ∷ (other ∷ others))) is one = absurd one
+text_plain standing line (of_each plains) is one = absurd one
+text_plain standing line (of_none why) is one = absurd one
 
 -- and leaves what that leaves
-stands_plain : (standing : Standing) (line : List ℕ) (stands : Result (List (List ℕ)) Unmet) → line_stands standing line ≡ stands → IsOne stands → unextended (left_after standing line) ≡ left_after (unextended standing) (plain_or line stands)
+stands_plain : (standing : Standing) (line : List ℕ) (stands : Meant) → line_stands standing line ≡ stands → IsOne stands → unextended (left_after standing line) ≡ left_after (unextended standing) (plain_or line stands)
 unfolding left_after done_last
-stands_plain standing line (Ok []) is one = absurd one
-stands_plain standing line (Ok (plain ∷ [])) is one = ap (λ it. unextended (left_of standing it)) is ∙ left_plain standing (reading_of plain)
-stands_plain standing line (Ok (plain ∷ (other ∷ others))) is one = absurd one
-stands_plain standing line (Err why) is one = absurd one
+stands_plain standing line (in_turn []) is one = absurd one
+stands_plain standing line (in_turn (plain ∷ [])) is one = ap (λ it. unextended (left_of standing it)) is ∙ left_plain standing (reading_of plain)
+stands_plain standing line (in_turn (plain ∷ (other ∷ others))) is one = absurd one
+stands_plain standing line (of_each plains) is one = absurd one
+stands_plain standing line (of_none why) is one = absurd one
 
 -- all lines
 pub lines_plain : (standing : Standing) (lines : List (List ℕ)) → AllStand standing lines → ArePlain standing lines

@@ -15,7 +15,7 @@ use Rattle.fits_script.specs.declared.command.Command.TheVariants.{Nothing, Edit
 use Rattle.fits_script.specs.declared.line_reading.LineReading.{LineReading}
 use Rattle.fits_script.specs.declared.line_reading.LineReading.TheVariants.{TooLong, NoCommand, Said}
 use Rattle.fits_extended.specs.declared.unmet.Unmet.{Unmet}
-use Rattle.fits_cli.specs.Answer.{Standing, after_outcome, asked, done_last, is_last_done, kept_line, left_after, left_of, line_left, line_stands, outcome_of, plain_left, still_at, some_places, sums_asked, unless}
+use Rattle.fits_cli.specs.Answer.{Meant, in_turn, of_each, of_none, Standing, after_outcome, all_refused, asked, each_left, first_line, held_after, held_at, done_last, is_last_done, kept_line, left_after, left_of, line_left, line_stands, outcome_of, plain_left, still_at, some_places, sums_asked, unless}
 use Rattle.fits_cli.specs.Output.{standing_after}
 use Rattle.fits_cli.proofs.ResultLemmas.{said_line}
 use Rattle.fits_cli.proofs.SizeLemmas.{IsSized}
@@ -24,7 +24,7 @@ use Rattle.fits_making.specs.Keeping.{are_right, vouch}
 use Rattle.fits_session.specs.Marked.{unmarked, vouched}
 use Rattle.fits_cli.specs.Answer.{at_first_line}
 use Rattle.fits_cli.specs.declared.terms.Terms.{Terms}
-use Rattle.fits_laws.specs.Runs.{IsEdited, LeavesSums, edit_unless, edits_done, edits_of, edits_said, edits_stood}
+use Rattle.fits_laws.specs.Runs.{IsEdited, LeavesSums, edit_unless, edits_asked, edits_done, edits_each, edits_of, edits_said, edits_stood}
 use Rattle.fits_laws.specs.Sums.{AreAccepted, AreKeptSo, AreKnown, known_after_each, marked_after_each, marks_after_each, right_marks, unvouched_cards}
 use Rattle.fits_laws.proofs.SumLemmas.{is_vouched, other_sums_stay, right_sums_stay}
 
@@ -105,10 +105,30 @@ plains_left standing (plain ∷ others) =
       | inr more ↦ rw more (both_left standing.marked next.marked (plain_left (done_last next others)).marked said (edits_done next others) first (plains_left next others))
     ]
 
+-- queries of several HDUs
+asked_left : (standing : Standing) (plains : List (List ℕ)) → Leaves standing.marked (held_after standing plains).marked (edits_asked standing plains)
+unfolding held_after
+asked_left standing [] = none_left _ _ refl
+asked_left standing (plain ∷ others) =
+    let next : Standing = held_at standing (reading_of plain) in
+    both_left standing.marked next.marked (held_after next others).marked (edits_said standing.marked (reading_of plain)) (edits_asked next others) (one_left standing plain (reading_of plain) refl) (asked_left next others)
+
+-- whether one of them is done or none
+eachs_left : (standing : Standing) (plains : List (List ℕ)) → Leaves standing.marked (each_left standing plains).marked (edits_each standing plains)
+eachs_left standing plains =
+    let after : Standing = held_after standing plains in
+    let first : List ℕ = first_line plains in
+    let all_asked = asked_left standing plains in
+    elim (cases_Bool (all_refused standing plains)) [
+      | inl all ↦ rw all (both_left standing.marked after.marked (line_left after (reading_of first)).marked (edits_asked standing plains) (edits_said after.marked (reading_of first)) all_asked (one_left after first (reading_of first) refl))
+      | inr some ↦ rw (some, append-nil (edits_asked standing plains)) all_asked
+    ]
+
 -- whatever a line stands for
-stood_left : (standing : Standing) (stands : Result (List (List ℕ)) Unmet) → Leaves standing.marked (left_of standing stands).marked (edits_stood standing stands)
-stood_left standing (Ok plains) = plains_left standing plains
-stood_left standing (Err why) = none_left _ _ refl
+stood_left : (standing : Standing) (stands : Meant) → Leaves standing.marked (left_of standing stands).marked (edits_stood standing stands)
+stood_left standing (in_turn plains) = plains_left standing plains
+stood_left standing (of_each plains) = eachs_left standing plains
+stood_left standing (of_none why) = none_left _ _ refl
 
 -- all lines
 pub lines_edited : (standing : Standing) (lines : List (List ℕ)) → IsEdited standing lines

@@ -12,8 +12,7 @@ use Rattle.fits_script.specs.declared.command.Command.{Command}
 use Rattle.fits_script.specs.declared.command.Command.TheVariants.{Nothing, Edit, Offsets, Get, Positions, Report, Statistics, Rectangle, Sums, Kept}
 use Rattle.fits_script.specs.declared.line_reading.LineReading.{LineReading}
 use Rattle.fits_script.specs.declared.line_reading.LineReading.TheVariants.{TooLong, NoCommand, Said}
-use Rattle.fits_extended.specs.declared.unmet.Unmet.{Unmet}
-use Rattle.fits_cli.specs.Answer.{Standing, after_outcome, asked, done_last, is_edit, is_last_done, kept_line, left_after, left_of, line_left, line_stands, outcome_of, plain_left, still_at, some_places, sums_asked, unless}
+use Rattle.fits_cli.specs.Answer.{Meant, in_turn, of_each, of_none, Standing, after_outcome, all_refused, asked, each_left, first_line, held_after, held_at, done_last, is_edit, is_last_done, kept_line, left_after, left_of, line_left, line_stands, outcome_of, plain_left, still_at, some_places, sums_asked, unless}
 use Rattle.fits_cli.specs.Output.{standing_after}
 
 -- unless an edit was accepted by then, none was before, and the file and its marks are as they were
@@ -69,10 +68,30 @@ plains_stay standing (plain ∷ others) = elim (cases_Bool (is_last_done standin
       (first.0, later.1 ∙ first.1))
 ]
 
+-- queries of several HDUs
+held_stay : (standing : Standing) (plains : List (List ℕ)) → Stays standing (held_after standing plains)
+unfolding held_after
+held_stay standing [] e = (e, refl)
+held_stay standing (plain ∷ others) e =
+    let later = held_stay (held_at standing (reading_of plain)) others e in
+    let first = line_stays standing (reading_of plain) later.0 in
+    (first.0, later.1 ∙ first.1)
+
+-- whether one of them is done or none
+each_stays : (standing : Standing) (plains : List (List ℕ)) → Stays standing (each_left standing plains)
+each_stays standing plains = elim (cases_Bool (all_refused standing plains)) [
+  | inl all ↦ rw all (λ e.
+      let again = line_stays (held_after standing plains) (reading_of (first_line plains)) e in
+      let before = held_stay standing plains again.0 in
+      (before.0, again.1 ∙ before.1))
+  | inr some ↦ rw some (held_stay standing plains)
+]
+
 -- and whatever a line stands for
-stood_stays : (standing : Standing) (stands : Result (List (List ℕ)) Unmet) → Stays standing (left_of standing stands)
-stood_stays standing (Ok plains) e = plains_stay standing plains e
-stood_stays standing (Err why) e = (e, refl)
+stood_stays : (standing : Standing) (stands : Meant) → Stays standing (left_of standing stands)
+stood_stays standing (in_turn plains) e = plains_stay standing plains e
+stood_stays standing (of_each plains) e = each_stays standing plains e
+stood_stays standing (of_none why) e = (e, refl)
 
 -- all lines leave them, where none of them is an edit that was accepted
 pub lines_stay : (standing : Standing) (lines : List (List ℕ)) → Stays standing (standing_after standing lines)

@@ -5,6 +5,7 @@ pub mod Forms
 pub mod Fresh
 pub mod Kinds
 pub mod LongStrings
+pub mod Patches
 pub mod Problems
 pub mod Runs
 pub mod Sums

@@ -8,7 +8,7 @@ use Rattle.fits_script.specs.declared.command.Command.TheVariants as command
 use Rattle.fits_script.specs.declared.line_reading.LineReading.{LineReading}
 use Rattle.fits_script.specs.declared.line_reading.LineReading.TheVariants.{Said}
 use Rattle.fits_extended.specs.declared.unmet.Unmet.{Unmet}
-use Rattle.fits_cli.specs.Answer.{Standing, is_last_done, left_after, line_stands, still_at}
+use Rattle.fits_cli.specs.Answer.{Meant, in_turn, of_each, of_none, Standing, all_refused, first_line, held_after, held_at, is_last_done, left_after, line_stands, still_at}
 use Rattle.fits_cli.specs.Output.{answers, standing_after}
 use Rattle.fits_passing.specs.File.{FileParts}
 use Rattle.fits_making.specs.Keeping.{are_right, vouch}
@@ -34,10 +34,23 @@ edits_done standing (plain ∷ others) =
     edits_said standing.marked (reading_of plain)
     ++ (if is_last_done standing plain others then [] else edits_done (still_at standing (reading_of plain)) others)
 
+-- those of plain lines of which each is done whatever the others come to
+abbrev pub edits_asked : Standing → List (List ℕ) → List Edit
+edits_asked standing [] = []
+edits_asked standing (plain ∷ others) =
+    edits_said standing.marked (reading_of plain) ++ edits_asked (held_at standing (reading_of plain)) others
+
+-- and of the first of them, where each is refused and it is asked again
+abbrev pub edits_each : Standing → List (List ℕ) → List Edit
+edits_each standing plains =
+    edits_asked standing plains
+    ++ (if all_refused standing plains then edits_said (held_after standing plains).marked (reading_of (first_line plains)) else [])
+
 -- those of what a line stands for
-abbrev pub edits_stood : Standing → Result (List (List ℕ)) Unmet → List Edit
-edits_stood standing (Ok plains) = edits_done standing plains
-edits_stood standing (Err why) = []
+abbrev pub edits_stood : Standing → Meant → List Edit
+edits_stood standing (in_turn plains) = edits_done standing plains
+edits_stood standing (of_each plains) = edits_each standing plains
+edits_stood standing (of_none why) = []
 
 -- those of lines, in their order
 abbrev pub edits_of : Standing → List (List ℕ) → List Edit
@@ -62,17 +75,19 @@ abbrev pub unextended : Standing → Standing
 unextended standing = record standing { extended = false }
 
 -- the plain line that a line stands for; one that stands for none stays
-abbrev pub plain_or : List ℕ → Result (List (List ℕ)) Unmet → List ℕ
-plain_or line (Ok []) = line
-plain_or line (Ok (plain ∷ others)) = plain
-plain_or line (Err why) = line
+abbrev pub plain_or : List ℕ → Meant → List ℕ
+plain_or line (in_turn []) = line
+plain_or line (in_turn (plain ∷ others)) = plain
+plain_or line (of_each plains) = line
+plain_or line (of_none why) = line
 
 -- a line stands for one alone
-abbrev pub IsOne : Result (List (List ℕ)) Unmet → Type 0
-IsOne (Ok []) = ⊥
-IsOne (Ok (plain ∷ [])) = Unit {0}
-IsOne (Ok (plain ∷ (other ∷ others))) = ⊥
-IsOne (Err why) = ⊥
+abbrev pub IsOne : Meant → Type 0
+IsOne (in_turn []) = ⊥
+IsOne (in_turn (plain ∷ [])) = Unit {0}
+IsOne (in_turn (plain ∷ (other ∷ others))) = ⊥
+IsOne (of_each plains) = ⊥
+IsOne (of_none why) = ⊥
 
 -- the plain lines that lines stand for, one each, in the file as those before it left it
 abbrev pub plain_lines : Standing → List (List ℕ) → List (List ℕ)

@@ -1,18 +1,25 @@
 //! Laws of the definitions, each the contract of a function that does nothing.
-ghost use Rattle.std.specs.Prelude.{◌≡◌, ◌↔◌, ◌+◌, ◌<◌, ℕ, true, AllPairs, Bool, false, List, Some, length, take, Ok};
+ghost use Rattle.std.specs.Prelude.{◌≡◌, ◌↔◌, ◌+◌, ◌<◌, ℕ, true, AllPairs, Bool, false, List, Some, drop, length, take, Ok};
 ghost use Rattle.fits_laws.specs.Forms.{Says};
 ghost use Rattle.fits_laws.specs.Runs.{AllStand, ArePlain, IsEdited, LeavesSums};
 ghost use Rattle.fits_script.specs.declared.command.Command.{Command};
 ghost use Rattle.fits_script.specs.declared.limits.TheConstants.{LINE_LIMIT};
 ghost use Rattle.fits_script.specs.Line.{command_of, reading_of};
 ghost use Rattle.fits_passing.specs.File.{FileParts, IsFile};
+ghost use Rattle.fits_passing.specs.Headers.{cards_of};
 ghost use Rattle.fits_passing.specs.Report.{IsListedBefore};
 ghost use Rattle.fits_passing.specs.declared.problem.Problem.{Problem};
 ghost use Rattle.fits_cli.specs.Answer.{at_first_line, Standing};
 ghost use Rattle.fits_cli.specs.NewErrors.{new_errors, HasMoreErrors};
 ghost use Rattle.fits_cli.specs.Output.{standing_after, Output, IsOutputOf};
+ghost use Rattle.fits_extended.specs.Stands.{number_at};
+ghost use Rattle.fits_tell.specs.Asked.{extension_number, AsksFor};
 ghost use Rattle.fits_tell.specs.Report.{warnings_in};
-ghost use Rattle.fits_cli.specs.Script.{IsCutInLines};
+ghost use Rattle.fits_cli.specs.Script.{script_lines, IsCutInLines};
+ghost use Rattle.fits_laws.specs.Patches.{ArePlainTerms, RunsWhole};
+ghost use Rattle.fits_patch.specs.Making.{script_made};
+ghost use Rattle.fits_session.specs.Marked.{Marked};
+ghost use Rattle.fits_tell.specs.declared.asked_extension.AskedExtension.{AskedExtension};
 ghost use Rattle.fits_tell.specs.declared.level.Level.{Level};
 ghost use Rattle.fits_tell.specs.declared.level.Level.TheVariants.{Errors};
 ghost use Rattle.fits_cli.specs.declared.terms.Terms.{Terms};
@@ -76,6 +83,20 @@ pub fn a_script_is_its_edits()
 pub fn an_extended_script_is_a_plain_one()
     ensures { (standing : Standing) (lines : List (List ℕ)) → AllStand standing lines
         → ArePlain standing lines }
+{}
+
+/// A script that is accepted whole by itself, as each that `diff -s` prints is, is so in a run of
+/// `edit` on plain terms: each line is done, none prints anything, and the file that it makes is left.
+pub fn a_patch_is_a_run_of_edit()
+    ensures { (terms : Terms) (file : FileParts) (script last : List ℕ) (lines : List (List ℕ)) (end : Marked)
+        → ArePlainTerms terms → IsCutInLines script lines last → script_made file script ≡ Ok end → RunsWhole terms file (script_lines lines last) end }
+{}
+
+/// The name of an extension is one HDU in an extended line and where `cards` and `keys` ask for it.
+pub fn names_mean_one_hdu()
+    ensures { (file : FileParts) (word : List ℕ) (asked : AskedExtension)
+        → AsksFor (drop 1 word) asked
+        → number_at file word ≡ extension_number (cards_of file.hdus) asked }
 {}
 
 /// Where right sums are kept right, lines leave those of each HDU that was opened with right ones so,

@@ -1,5 +1,5 @@
 -- Cards as they are chosen and printed.
-use Rattle.std.proofs.Common.{◌≡◌, ℕ, suc, ◌+◌, ◌-◌, ◌<◌, ◌==◌, Bool, false, not, ◌&&◌, ◌||◌, List, [], ◌∷◌, ◌++◌, length, take, drop, map, set, get_or, slice_index_or, Option, refl, ap, sym, subst, rules, ◌∙◌, append_assoc, arith, if◌then◌else◌}
+use Rattle.std.proofs.Common.{◌≡◌, ℕ, suc, ◌+◌, ◌-◌, ◌<◌, ◌==◌, Bool, false, not, ◌&&◌, ◌||◌, List, [], ◌∷◌, ◌++◌, length, take, drop, map, set, get_or, slice_index_or, Option, inr, refl, ap, sym, subst, rules, ◌∙◌, append_assoc, arith, if◌then◌else◌}
 use Rattle.std.proofs.lemmas.List.{get_or-map, length-map}
 use Rattle.std.proofs.lemmas.List.Concat.{flat_map-append}
 use Rattle.std.proofs.Math.Seq.{drop-cons, map-set_same}
@@ -10,14 +10,15 @@ use Rattle.fits_stream.specs.Stream.{SourceState, SinkState, Prints, StaysQuiet}
 use Rattle.fits_stream.proofs.StreamLemmas.{Prints-more, PrintsFront-unflushed}
 use Rattle.fits_passing.specs.Headers.{read_cards, ShowsHeaders}
 use Rattle.fits_passing.specs.declared.open_fault.OpenFault.{OpenFault}
-use Rattle.fits_tell.specs.Cards.{all_chosen, card_line, card_lines, cards_text, changed_at, changed_of, chosen_from, chosen_in, has_name, has_some, CardsStop}
+use Rattle.fits_tell.specs.Asked.{numbers_asked}
+use Rattle.fits_tell.specs.Cards.{all_chosen, card_line, card_lines, cards_text, changed_at, changed_of, chosen_among, chosen_from, chosen_in, has_name, has_some, CardsStop}
 use Rattle.fits_tell.specs.Faults.{FlushFails}
 use Rattle.fits_tell.specs.Numbered.{numbered}
 use Rattle.fits_tell.specs.Telling.{PrintingStops}
 use Rattle.fits_tell.specs.declared.card_choice.CardChoice.{CardChoice}
 use Rattle.fits_tell.specs.declared.card_place.CardPlace.{CardPlace}
 use Rattle.fits_tell.specs.declared.fault.Fault.{Fault}
-use Rattle.fits_tell.specs.declared.fault.Fault.TheVariants.{Memory}
+use Rattle.fits_tell.specs.declared.fault.Fault.TheVariants.{Memory, ReadFailed, Refused, Reread, ScriptTooLong, WriteFailed}
 use Rattle.fits_tell.specs.declared.shown_card.ShownCard.{ShownCard}
 use Rattle.fits_tell.proofs.NumberedLemmas.{numbered-more, numbered-split}
 use Rattle.fits_tell.proofs.VerifyingLemmas.{PrintingStops-longer, PrintingStops-more, PrintingStops-none}
@@ -57,14 +58,14 @@ pub ruleset pattern_steps = (choice_begun)
 pub ruleset text_steps = (choice_begun)
 
 -- the cards of header i
-cards_here : (lists : List CardStore) (headers : List (List (List ℕ))) (i : ℕ) (it : CardStore) → read_cards lists ≡ headers → i < length lists → it ≡ get_or lists i it → get_or headers i it.header.cards ≡ it.header.cards
+pub cards_here : (lists : List CardStore) (headers : List (List (List ℕ))) (i : ℕ) (it : CardStore) → read_cards lists ≡ headers → i < length lists → it ≡ get_or lists i it → get_or headers i it.header.cards ≡ it.header.cards
 cards_here lists headers i it same l e =
     ap (λ (t : List (List (List ℕ))). get_or t i it.header.cards) (sym same)
     ∙ get_or-map (λ (list : CardStore). list.header.cards) lists i it it.header.cards l
     ∙ ap (λ (list : CardStore). list.header.cards) (sym e)
 
 -- their number
-cards_within : (lists : List CardStore) (headers : List (List (List ℕ))) (i : ℕ) → read_cards lists ≡ headers → i < length lists → i < length headers
+pub cards_within : (lists : List CardStore) (headers : List (List (List ℕ))) (i : ℕ) → read_cards lists ≡ headers → i < length lists → i < length headers
 cards_within lists headers i same l = omega (arith, ap length same, length-map lists (λ (list : CardStore). list.header.cards))
 
 -- the cards stay where one is read
@@ -73,34 +74,34 @@ headers_kept lists headers i old new same e kept =
     map-set_same (λ (list : CardStore). list.header.cards) lists i new old (ap (λ h. h.cards) kept ∙ ap (λ (list : CardStore). list.header.cards) e) ∙ same
 
 -- the cards that are shown of the first headers, and of one more
-pub chosen_more : (choice : CardChoice) (lists : List CardStore) (headers : List (List (List ℕ))) (i : ℕ) (it : CardStore) (shown : List ShownCard) → read_cards lists ≡ headers → i < length lists → it ≡ get_or lists i it
-    → shown ≡ chosen_in choice (i + 1) it.header.cards → all_chosen choice (take (i + 1) headers) ≡ all_chosen choice (take i headers) ++ shown
-chosen_more choice lists headers i it shown same l e is =
-    numbered-more (chosen_in choice) headers i it.header.cards (cards_within lists headers i same l)
-    ∙ ap (λ t. all_chosen choice (take i headers) ++ t) (ap (chosen_in choice (i + 1)) (cards_here lists headers i it same l e) ∙ sym is)
+pub chosen_more : (choice : CardChoice) (numbers : List ℕ) (lists : List CardStore) (headers : List (List (List ℕ))) (i : ℕ) (it : CardStore) (shown : List ShownCard) → read_cards lists ≡ headers → i < length lists → it ≡ get_or lists i it
+    → shown ≡ chosen_in choice numbers (i + 1) it.header.cards → chosen_among choice numbers (take (i + 1) headers) ≡ chosen_among choice numbers (take i headers) ++ shown
+chosen_more choice numbers lists headers i it shown same l e is =
+    numbered-more (chosen_in choice numbers) headers i it.header.cards (cards_within lists headers i same l)
+    ∙ ap (λ t. chosen_among choice numbers (take i headers) ++ t) (ap (chosen_in choice numbers (i + 1)) (cards_here lists headers i it same l e) ∙ sym is)
 
 -- the lines of one more header are printed
 pub prints_header : (a b c : SinkState) (choice : CardChoice) (some more shown : List ShownCard) → more ≡ some ++ shown → Prints (card_lines some) a b → Prints (card_lines shown) b c → Prints (card_lines more) a c
 prints_header a b c choice some more shown is p q = rw (is, flat_map-append card_line some shown) (Prints-more a b c _ _ p q)
 
 -- a text that stops within the lines of one header stops that of all
-pub stops_in_header : (a b c : SinkState) (choice : CardChoice) (headers : List (List (List ℕ))) (i : ℕ) (shown : List ShownCard) (fault : Fault) → all_chosen choice (take (i + 1) headers) ≡ all_chosen choice (take i headers) ++ shown
-    → Prints (card_lines (all_chosen choice (take i headers))) a b → PrintingStops (card_lines shown) b c fault → PrintingStops (cards_text choice headers) a c fault
-stops_in_header a b c choice headers i shown fault is p q =
-    let rest : List ShownCard = numbered (chosen_in choice) (1 + length (take (i + 1) headers)) (drop (i + 1) headers) in
-    let split : cards_text choice headers ≡ card_lines (all_chosen choice (take i headers)) ++ (card_lines shown ++ card_lines rest) =
-    ap card_lines (numbered-split (chosen_in choice) headers (i + 1) ∙ ap (λ t. t ++ rest) is)
-    ∙ flat_map-append card_line (all_chosen choice (take i headers) ++ shown) rest
-    ∙ ap (λ t. t ++ card_lines rest) (flat_map-append card_line (all_chosen choice (take i headers)) shown)
-    ∙ append_assoc (card_lines (all_chosen choice (take i headers))) (card_lines shown) (card_lines rest) in
+pub stops_in_header : (a b c : SinkState) (choice : CardChoice) (numbers : List ℕ) (headers : List (List (List ℕ))) (i : ℕ) (shown : List ShownCard) (fault : Fault) → chosen_among choice numbers (take (i + 1) headers) ≡ chosen_among choice numbers (take i headers) ++ shown
+    → Prints (card_lines (chosen_among choice numbers (take i headers))) a b → PrintingStops (card_lines shown) b c fault → PrintingStops (card_lines (chosen_among choice numbers headers)) a c fault
+stops_in_header a b c choice numbers headers i shown fault is p q =
+    let rest : List ShownCard = numbered (chosen_in choice numbers) (1 + length (take (i + 1) headers)) (drop (i + 1) headers) in
+    let split : card_lines (chosen_among choice numbers headers) ≡ card_lines (chosen_among choice numbers (take i headers)) ++ (card_lines shown ++ card_lines rest) =
+    ap card_lines (numbered-split (chosen_in choice numbers) headers (i + 1) ∙ ap (λ t. t ++ rest) is)
+    ∙ flat_map-append card_line (chosen_among choice numbers (take i headers) ++ shown) rest
+    ∙ ap (λ t. t ++ card_lines rest) (flat_map-append card_line (chosen_among choice numbers (take i headers)) shown)
+    ∙ append_assoc (card_lines (chosen_among choice numbers (take i headers))) (card_lines shown) (card_lines rest) in
     rw split (PrintingStops-more a b c _ _ fault p (PrintingStops-longer b c _ (card_lines rest) fault q))
 
 -- and one that stops before them
-pub stops_at_header : (a b : SinkState) (choice : CardChoice) (headers : List (List (List ℕ))) (i : ℕ) → Prints (card_lines (all_chosen choice (take i headers))) a b → PrintingStops (cards_text choice headers) a b Memory
-stops_at_header a b choice headers i p =
-    let rest : List ShownCard = numbered (chosen_in choice) (1 + length (take i headers)) (drop i headers) in
-    let split : cards_text choice headers ≡ card_lines (all_chosen choice (take i headers)) ++ card_lines rest =
-    ap card_lines (numbered-split (chosen_in choice) headers i) ∙ flat_map-append card_line (all_chosen choice (take i headers)) rest in
+pub stops_at_header : (a b : SinkState) (choice : CardChoice) (numbers : List ℕ) (headers : List (List (List ℕ))) (i : ℕ) → Prints (card_lines (chosen_among choice numbers (take i headers))) a b → PrintingStops (card_lines (chosen_among choice numbers headers)) a b Memory
+stops_at_header a b choice numbers headers i p =
+    let rest : List ShownCard = numbered (chosen_in choice numbers) (1 + length (take i headers)) (drop i headers) in
+    let split : card_lines (chosen_among choice numbers headers) ≡ card_lines (chosen_among choice numbers (take i headers)) ++ card_lines rest =
+    ap card_lines (numbered-split (chosen_in choice numbers) headers i) ∙ flat_map-append card_line (chosen_among choice numbers (take i headers)) rest in
     rw split (PrintingStops-more a b b _ _ Memory p (PrintingStops-none b (card_lines rest)))
 
 -- the places of one more header's cards
@@ -121,9 +122,30 @@ some_more (x ∷ xs) ys before any empty p q r = r ∙ ap (λ b. b || not empty)
 pub any_more : (some more shown : List ShownCard) (before empty : Bool) → more ≡ some ++ shown → before ≡ has_some some → empty ≡ (length shown == 0) → (before || not empty) ≡ has_some more
 any_more some more shown before empty is p q = some_more some shown before _ empty p q refl ∙ ap has_some (sym is)
 
+-- what is shown by the numbers of the HDUs that are asked for is what is chosen of all
+pub chosen_by_numbers : (choice : CardChoice) (headers after : List (List (List ℕ))) (numbers found : List ℕ) → after ≡ headers → numbers ≡ found → found ≡ numbers_asked headers choice.hdus.items
+    → chosen_among choice numbers after ≡ all_chosen choice headers
+chosen_by_numbers choice headers after numbers found same is asked = rw (is, asked, same) refl
+
+-- by a text that isn't printed to its end
+stop-text : (choice : CardChoice) (file file_after : SourceState) (out out_after : SinkState) (headers : List (List (List ℕ))) (found : Option OpenFault) (fault : Fault) → ShowsHeaders file file_after headers found → StaysQuiet file file_after
+    → PrintingStops (cards_text choice headers) out out_after fault → CardsStop choice file file_after out out_after fault
+stop-text choice file file_after out out_after headers found (Refused why) shows read stops = absurd stops
+stop-text choice file file_after out out_after headers found ScriptTooLong shows read stops = absurd stops
+stop-text choice file file_after out out_after headers found Memory shows read stops = record { read = read; quiet = stops.1; printed = inr (headers, found, shows, stops.0) }
+stop-text choice file file_after out out_after headers found ReadFailed shows read stops = absurd stops
+stop-text choice file file_after out out_after headers found WriteFailed shows read stops = record { headers = headers; fault = found; shows = shows; read = read; printed = stops }
+stop-text choice file file_after out out_after headers found (Reread why) shows read stops = absurd stops
+
+-- the same of the lines of what is chosen
+pub CardsStop-text : (choice : CardChoice) (file file_after : SourceState) (out out_after : SinkState) (headers : List (List (List ℕ))) (shown : List ShownCard) (found : Option OpenFault) (fault : Fault) → shown ≡ all_chosen choice headers
+    → ShowsHeaders file file_after headers found → StaysQuiet file file_after → PrintingStops (card_lines shown) out out_after fault → CardsStop choice file file_after out out_after fault
+CardsStop-text choice file file_after out out_after headers shown found fault all shows read stops =
+    stop-text choice file file_after out out_after headers found fault shows read (subst (λ (t : List ShownCard). PrintingStops (card_lines t) out out_after fault) all stops)
+
 -- by a flush that fails
-pub CardsStop-flush : (choice : CardChoice) (file file_after : SourceState) (out mid out_after : SinkState) (headers : List (List (List ℕ))) (found : Option OpenFault) (fault : Fault) → ShowsHeaders file file_after headers found → StaysQuiet file file_after
-    → Prints (cards_text choice headers) out mid → FlushFails mid out_after fault → CardsStop choice file file_after out out_after fault
-CardsStop-flush choice file file_after out mid out_after headers found fault shows read printed failed =
+pub CardsStop-flush : (choice : CardChoice) (file file_after : SourceState) (out mid out_after : SinkState) (headers : List (List (List ℕ))) (shown : List ShownCard) (found : Option OpenFault) (fault : Fault) → shown ≡ all_chosen choice headers
+    → ShowsHeaders file file_after headers found → StaysQuiet file file_after → Prints (card_lines shown) out mid → FlushFails mid out_after fault → CardsStop choice file file_after out out_after fault
+CardsStop-flush choice file file_after out mid out_after headers shown found fault all shows read printed failed =
     subst (λ (f : Fault). CardsStop choice file file_after out out_after f) (sym failed.0)
-    (record { headers = headers; fault = found; shows = shows; read = read; printed = PrintsFront-unflushed out mid out_after (cards_text choice headers) printed failed.1 })
+    (record { headers = headers; fault = found; shows = shows; read = read; printed = PrintsFront-unflushed out mid out_after (cards_text choice headers) (subst (λ (t : List ShownCard). Prints (card_lines t) out mid) all printed) failed.1 })

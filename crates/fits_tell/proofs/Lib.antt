@@ -1,3 +1,4 @@
+pub mod AskedLemmas
 pub mod CalledLemmas
 pub mod CardLemmas
 pub mod DoubledLemmas

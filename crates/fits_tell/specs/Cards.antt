@@ -9,6 +9,7 @@ use Rattle.fits_header.specs.Links.{header_links}
 use Rattle.fits_stream.specs.Stream.{SourceState, SinkState, GainsFront, FailsOnce, Prints, PrintsFront, StaysQuiet}
 use Rattle.fits_passing.specs.Headers.{ShowsHeaders}
 use Rattle.fits_passing.specs.declared.open_fault.OpenFault.{OpenFault}
+use Rattle.fits_tell.specs.Asked.{numbers_asked}
 use Rattle.fits_tell.specs.Faults.{status_of_fault}
 use Rattle.fits_tell.specs.Numbered.{numbered}
 use Rattle.fits_tell.specs.declared.card_choice.CardChoice.{CardChoice}
@@ -44,9 +45,9 @@ fits name pattern = bytes_eq (take pattern.len name) (take pattern.len pattern.n
 abbrev pub has_name : CardChoice → List ℕ → Bool
 has_name choice name = (length choice.names.items == 0) || list_any (fits name) choice.names.items
 
--- an HDU is asked for; all are where none is named
-abbrev pub has_hdu : CardChoice → ℕ → Bool
-has_hdu choice h = (length choice.hdus.items == 0) || list_any (λ asked. asked == h) choice.hdus.items
+-- an HDU has one of these numbers; all have where there are none
+abbrev pub has_hdu : List ℕ → ℕ → Bool
+has_hdu numbers h = (length numbers == 0) || list_any (λ asked. asked == h) numbers
 
 -- HDUs or names are asked for
 abbrev pub is_given : CardChoice → Bool
@@ -61,13 +62,17 @@ chosen_from choice h place before (card ∷ cards) (link ∷ links) =
     let shown : Bool = has_name choice (keyword_name card) || (link && before) in
     (if shown then (record { hdu = h; place = place; card = card }) ∷ [] else []) ++ chosen_from choice h (place + 1) shown cards links
 
--- the cards of HDU h that are shown
-unfoldable pub chosen_in : CardChoice → ℕ → List (List ℕ) → List ShownCard
-chosen_in choice h cards = if has_hdu choice h then chosen_from choice h 1 false cards (header_links cards) else []
+-- the cards of HDU h that are shown, where HDUs of these numbers are asked for
+unfoldable pub chosen_in : CardChoice → List ℕ → ℕ → List (List ℕ) → List ShownCard
+chosen_in choice numbers h cards = if has_hdu numbers h then chosen_from choice h 1 false cards (header_links cards) else []
 
--- those of all headers
+-- those of headers
+abbrev pub chosen_among : CardChoice → List ℕ → List (List (List ℕ)) → List ShownCard
+chosen_among choice numbers headers = numbered (chosen_in choice numbers) 1 headers
+
+-- those of all headers of a file
 abbrev pub all_chosen : CardChoice → List (List (List ℕ)) → List ShownCard
-all_chosen choice headers = numbered (chosen_in choice) 1 headers
+all_chosen choice headers = chosen_among choice (numbers_asked headers choice.hdus.items) headers
 
 -- the lines of cards
 abbrev pub card_lines : List ShownCard → List ℕ

@@ -1,3 +1,4 @@
+pub mod Asked
 pub mod Called
 pub mod Cards
 pub mod Faults

@@ -2,7 +2,7 @@
 ghost use Rattle.std.specs.Prelude.{◌≡◌, ◌++◌, length, IfOk, IfErr, OnOk, Some, None};
 ghost use Rattle.fits_stream.specs.Stream.{Prints};
 ghost use Rattle.fits_passing.specs.Headers.{read_cards};
-ghost use Rattle.fits_tell.specs.Cards.{all_chosen, cards_text, changed_of, end_by, has_some, CardsAreShown, CardsEndAs, CardsStop};
+ghost use Rattle.fits_tell.specs.Cards.{all_chosen, card_lines, cards_text, changed_of, chosen_among, end_by, has_some, CardsAreShown, CardsEndAs, CardsStop};
 ghost use Rattle.fits_tell.specs.Telling.{PrintingStops};
 
 use crate::card_choice::CardChoice;
@@ -12,6 +12,7 @@ use crate::choosing::chosen;
 use crate::end::{End, one_if};
 use crate::fault::Fault;
 use crate::printing::{flush, print};
+use crate::seeking::numbers_asked;
 use fits_card::CardList;
 use fits_passing::{Headers, OpenFault, read_headers};
 use fits_stream::{Sink, Source};
@@ -65,7 +66,8 @@ fn show_cards<F: Source, O: Sink>(
         Err(why) => return Err(Fault::from(why)),
     };
     let mut changed = Vec::new(alloc);
-    let any = print_headers(alloc, choice, &mut headers, &mut changed, out)?;
+    let numbers = numbers_asked(alloc, &choice.hdus, &mut headers)?;
+    let any = print_headers(alloc, choice, &numbers, &mut headers, &mut changed, out)?;
     flush(out)?;
     let end = ended(choice, !changed.is_empty(), any, fault);
     Ok(CardsEnd { end, changed })
@@ -87,29 +89,32 @@ fn ended(choice: &CardChoice, changed: bool, any: bool, fault: Option<OpenFault>
     }
 }
 
-// Prints the cards of headers that are asked for, and says whether there is one. Room for the lines
-// of one header is taken.
+// Prints the cards of headers that are asked for, where HDUs of these numbers are, and says whether
+// there is one. Room for the lines of one header is taken.
 fn print_headers<O: Sink>(
     alloc: Global,
     choice: &CardChoice,
+    numbers: &[u64],
     headers: &mut Vec<CardList>,
     changed: &mut Vec<CardPlace>,
     out: &mut O,
 ) -> Result<bool, Fault>
-    ensures ok { OnOk result (Prints (cards_text choice.now (read_cards headers.old.items))
+    ensures ok { OnOk result (Prints
+        (card_lines (chosen_among choice.now numbers.now (read_cards headers.old.items)))
         (O.state out.old) (O.state out.new)) }
     ensures changed { OnOk result (changed.new.items ≡ changed.old.items
-        ++ changed_of (all_chosen choice.now (read_cards headers.old.items))) }
+        ++ changed_of (chosen_among choice.now numbers.now (read_cards headers.old.items))) }
     ensures any { IfOk result (λ any. any
-        ≡ has_some (all_chosen choice.now (read_cards headers.old.items))) }
-    ensures err { IfErr result (PrintingStops (cards_text choice.now (read_cards headers.old.items))
+        ≡ has_some (chosen_among choice.now numbers.now (read_cards headers.old.items))) }
+    ensures err { IfErr result (PrintingStops
+        (card_lines (chosen_among choice.now numbers.now (read_cards headers.old.items)))
         (O.state out.old) (O.state out.new)) }
 {
     let mut text = Vec::new(alloc);
     let mut any = false;
     for i in 0..headers.len() {
         let cards = &mut headers[i];
-        let shown = chosen(alloc, choice, i + 1, cards)?;
+        let shown = chosen(alloc, choice, numbers, i + 1, cards)?;
         text.clear();
         push_cards(&mut text, &shown)?;
         push_changed(changed, &shown)?;

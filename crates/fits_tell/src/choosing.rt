@@ -1,9 +1,10 @@
 //! Which cards of a header are shown.
-ghost use Rattle.std.specs.Prelude.{◌≡◌, ◌++◌, ◌∷◌, [], ◌&&◌, ◌||◌, false, IfOk, OnOk, if◌then◌else◌};
+ghost use Rattle.std.specs.Prelude.{◌≡◌, ◌++◌, ◌∷◌, [], ◌&&◌, ◌||◌, ◌==◌, false, IfOk, OnOk, if◌then◌else◌};
+ghost use Rattle.std.specs.List.{list_any};
 ghost use Rattle.fits_card.specs.Card.{keyword_name};
 ghost use Rattle.fits_header.specs.Links.{header_links, leaves_open, string_mark};
 ghost use Rattle.fits_value.specs.Says.{ends_in_ampersand};
-ghost use Rattle.fits_tell.specs.Cards.{chosen_from, chosen_in, has_name};
+ghost use Rattle.fits_tell.specs.Cards.{chosen_from, chosen_in, has_hdu, has_name};
 
 use crate::card_choice::CardChoice;
 use crate::shown_card::ShownCard;
@@ -11,23 +12,38 @@ use fits_card::{Card, CardList};
 use fits_value::{card_string, link_string};
 use std::alloc::{AllocError, Global};
 
-/// The cards of HDU h that are shown.
+/// The cards of HDU h that are shown, where HDUs of these numbers are asked for.
 #[tactic(auto, unfolding(crate::specs::Cards::chosen_in))]
 pub(crate) fn chosen(
     alloc: Global,
     choice: &CardChoice,
+    numbers: &[u64],
     h: usize,
     cards: &mut CardList,
 ) -> Result<Vec<ShownCard>, AllocError>
     ensures chosen { IfOk result (λ shown. shown.items
-        ≡ chosen_in choice.now h cards.old.header.cards) }
+        ≡ chosen_in choice.now numbers.now h cards.old.header.cards) }
     ensures same { cards.new.header ≡ cards.old.header }
 {
-    if choice.has_hdu(h as u64) {
+    if has_hdu(numbers, h as u64) {
         choose(alloc, choice, h, cards)
     } else {
         Ok(Vec::new(alloc))
     }
+}
+
+// Whether HDU h has one of these numbers, or there are none.
+fn has_hdu(numbers: &[u64], h: u64) -> bool
+    ensures { result ≡ has_hdu numbers.now h }
+{
+    numbers.is_empty() || is_asked(numbers, h)
+}
+
+// Whether a number is one of these.
+fn is_asked(numbers: &[u64], h: u64) -> bool
+    ensures { result ≡ list_any (λ asked. asked == h) numbers.now }
+{
+    numbers.iter().any(|asked| *asked == h)
 }
 
 // The cards that have a name that is asked for, and the links that go on with one.

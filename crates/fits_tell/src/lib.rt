@@ -1,6 +1,8 @@
 //! The texts of a file, and the runs that read it once and print one.
 #![tactic(auto)]
 
+mod asked_extension;
+mod asked_hdu;
 mod called;
 mod called_outline;
 mod card_choice;
@@ -23,6 +25,7 @@ mod problem_card;
 mod pushing;
 mod report_lines;
 mod reread;
+mod seeking;
 mod shown_card;
 mod stating;
 mod summary;
@@ -33,6 +36,8 @@ mod telling;
 mod untouched;
 mod verifying;
 
+pub use asked_extension::{AskedExtension, cut_version};
+pub use asked_hdu::AskedHdu;
 pub use card_choice::CardChoice;
 pub use card_place::CardPlace;
 pub use cards::{CardsEnd, run_cards};
@@ -49,6 +54,7 @@ pub use printing::{flush, print, print_at_once};
 pub use pushing::{push_both, push_doubled, push_number, push_offsets};
 pub use report_lines::{push_problem, report_text};
 pub use reread::Reread;
+pub use seeking::{is_version, number_asked};
 pub use summing::run_sum;
 pub use table_problem::TableProblem;
 pub use telling::{Telling, run_telling};

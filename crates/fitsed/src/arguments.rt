@@ -25,6 +25,7 @@ const EDITS: Form = Form {
         Word::Verbose(WHY_LINES),
         Word::Named,
         Word::RecursiveInPlace,
+        Word::ProgressInPlace,
         Word::Flag("all", 'a', "Save nothing unless every line is done"),
         Word::Flag(
             "check",
@@ -72,8 +73,10 @@ const ASKS: Form = Form {
         Word::Extended,
         Word::Verbose(WHY_LINES),
         Word::Named,
+        Word::Json,
         Word::Recursive,
         Word::NamesFrom,
+        Word::Progress,
         Word::Files,
         Word::Flag(
             "tables",
@@ -91,8 +94,10 @@ const SHOWS: Form = Form {
     words: &[
         Word::Verbose(WHY_FILES),
         Word::Named,
+        Word::JsonUnless("files-without"),
         Word::Recursive,
         Word::NamesFrom,
+        Word::Progress,
         Word::Files,
         Word::Hdu,
         Word::Name,
@@ -110,6 +115,7 @@ const TABLES: Form = Form {
         Word::Verbose(WHY_FILES),
         Word::Recursive,
         Word::NamesFrom,
+        Word::Progress,
         Word::Files,
         Word::OneHdu,
         Word::Keyword,
@@ -141,8 +147,10 @@ const LISTS: Form = Form {
     words: &[
         Word::Verbose(WHY_FILES),
         Word::Named,
+        Word::Json,
         Word::Recursive,
         Word::NamesFrom,
+        Word::Progress,
         Word::Files,
         Word::Flag(
             "long",
@@ -160,8 +168,10 @@ const SUMS: Form = Form {
     words: &[
         Word::Verbose(WHY_FILES),
         Word::Named,
+        Word::Json,
         Word::Recursive,
         Word::NamesFrom,
+        Word::Progress,
         Word::Files,
         Word::Flag(
             "check",
@@ -179,8 +189,10 @@ const STATES: Form = Form {
     words: &[
         Word::Verbose(WHY_FILES),
         Word::Named,
+        Word::Json,
         Word::Recursive,
         Word::NamesFrom,
+        Word::Progress,
         Word::Files,
     ],
 };
@@ -193,8 +205,10 @@ const VERIFIES: Form = Form {
     words: &[
         Word::Verbose(WHY_FILES),
         Word::Named,
+        Word::JsonUnless("files-with-errors"),
         Word::Recursive,
         Word::NamesFrom,
+        Word::Progress,
         Word::Files,
         Word::Flag("errors", 'e', "List errors alone"),
         Word::Flag("quiet", 'q', "List nothing: print the counts alone"),

@@ -13,22 +13,26 @@ pub struct Detail<'c> {
     /// Where it is told.
     pub errors: Stderr,
     verbose: bool,
+    progress: bool,
     on_terminal: bool,
     undone: &'c Cell<u64>,
 }
 
 impl<'c> Detail<'c> {
-    /// The detail of a command, with `-v` or without. Lines that aren't done are counted in `undone`.
+    /// The detail of a command, with `-v` and `--progress` or without. Lines that aren't done are
+    /// counted in `undone`.
     pub fn of(
         command: &'c str,
         errors: Stderr,
         verbose: bool,
+        progress: bool,
         undone: &'c Cell<u64>,
     ) -> Detail<'c> {
         Detail {
             command,
             errors,
             verbose,
+            progress,
             on_terminal: errors.is_terminal(),
             undone,
         }
@@ -37,6 +41,11 @@ impl<'c> Detail<'c> {
     /// Whether more is told than the lines that programs read.
     pub fn tells(&self) -> bool {
         self.verbose || self.on_terminal
+    }
+
+    /// Whether it is told how far a run over several files has come.
+    pub fn tells_progress(&self) -> bool {
+        self.progress
     }
 
     /// Where remarks on lines go, if they are made.

@@ -10,6 +10,7 @@ use crate::explaining::INPUT;
 use crate::files::{Standing, is_stored, mode_of, standing_at};
 use crate::listed::{FileList, listed};
 use crate::piece::{Piece, script_of};
+use crate::progress::Progress;
 use crate::remarks::{before_remarks, remarks_after};
 use crate::reporting::{
     NOT_TAKEN, report_beside, report_done, report_left_over, report_made_hyphen, report_new,
@@ -28,7 +29,7 @@ use fits_stream::{FileSource, NamedLines, ReadLog, Sink, Source, Watched};
 use std::alloc::Global;
 use std::fs::File;
 use std::io::{BufWriter, Write};
-use std::rt::Files;
+use std::rt::{Clock, Files};
 use std::{fs, io};
 
 /// A file that is edited, and where it is saved to.
@@ -72,7 +73,9 @@ pub fn edit<R: Files<File = File> + Input + Print + Eprint + AllocGlobal>(
 
 /// Edits each file where it stands, by the same script. The status is the greatest. If it `tells`,
 /// the name of each goes to standard error once it is saved.
-pub fn edit_in_place<R: Files<File = File> + Input + Print + Eprint + AllocGlobal + Clone + Drop>(
+pub fn edit_in_place<
+    R: Files<File = File> + Input + Print + Eprint + Clock + AllocGlobal + Clone + Drop,
+>(
     rt: &R,
     script: &[Piece<'_>],
     files: Inputs<'_, '_>,
@@ -90,7 +93,9 @@ pub fn edit_in_place<R: Files<File = File> + Input + Print + Eprint + AllocGloba
     let Ok(FileList { paths, mut status }) = listed(rt, files) else {
         return reported(rt, Fault::Memory);
     };
+    let mut progress = Progress::of(detail.tells_progress(), paths.len());
     for path in &paths {
+        progress.begin(rt, path);
         if let Some(oddity) = oddity_of(path) {
             status = status.max(reported_oddity(rt, oddity));
             continue;

@@ -97,8 +97,9 @@ Exit status:
 pub(crate) const SHOWN: &str = "Each line: HDU PLACE CARD, without the spaces at its end
   HDUs and places count from 1; END has no place. After 'put ' each is a line of a script.
   A NAME with an asterisk at its end stands for all that begin so. Cards that go on with a
-  long string are printed with it. Of a file that doesn't open the cards before the fault
-  are printed.
+  long string are printed with it. For the number of an HDU @NAME or @NAME,VER may stand: the
+  first extension of that EXTNAME and EXTVER. Of a file that doesn't open the cards before the
+  fault are printed.
 
 Exit status:
   0  done
@@ -165,6 +166,7 @@ With -x extended lines too, each for some of these, by the file as it is then:
   lack H NAME          nothing, where there is none; else it is refused
   and for the number H @NAME or @NAME,VER: the first extension of that EXTNAME and EXTVER
   and with -a in edits *: each HDU, in order; nothing is saved if one refuses
+  and in get, pos, stat, rect, sum and kept *: each HDU, its number before its answer
 Values of pixels are the stored numbers, with the offset of unsigned integers and signed bytes;
 other BSCALE and BZERO aren't applied.
 

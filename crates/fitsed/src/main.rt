@@ -13,6 +13,7 @@ mod help;
 mod listed;
 mod noted;
 mod piece;
+mod progress;
 mod reading;
 mod remarks;
 mod reporting;
@@ -40,7 +41,7 @@ use std::fs;
 use std::fs::File;
 use std::io::IsTerminal;
 use std::process::ExitCode;
-use std::rt::Files;
+use std::rt::{Clock, Files};
 use subject::Subject;
 use task::{Inputs, Task, TaskFault, task_of};
 use words::{oddity_of, words};
@@ -67,11 +68,15 @@ fn main(rt: HostRuntime) -> ExitCode {
 // Does what words ask for, and gives its status.
 fn asked(rt: &HostRuntime, words: &[String], matches: &ArgMatches<'_>) -> u8 {
     let undone = Cell::new(0);
-    let (command, verbose) = match matches.subcommand() {
-        Some((name, of_command)) => (name, of_command.get_flag("verbose")),
-        None => ("", false),
+    let (command, verbose, progress) = match matches.subcommand() {
+        Some((name, of_command)) => (
+            name,
+            of_command.get_flag("verbose"),
+            of_command.get_flag("progress"),
+        ),
+        None => ("", false, false),
     };
-    let detail = Detail::of(command, rt.stderr(), verbose, &undone);
+    let detail = Detail::of(command, rt.stderr(), verbose, progress, &undone);
     let status = match task_of(rt.alloc(), matches) {
         Ok(task) => status_of(rt, detail, task),
         Err(why) => unsettled(rt, words, detail, why),
@@ -81,7 +86,7 @@ fn asked(rt: &HostRuntime, words: &[String], matches: &ArgMatches<'_>) -> u8 {
 }
 
 // Does a task, and gives its status.
-fn status_of<R: Files<File = File> + Input + Print + Eprint + AllocGlobal + Clone + Drop>(
+fn status_of<R: Files<File = File> + Input + Print + Eprint + Clock + AllocGlobal + Clone + Drop>(
     rt: &R,
     detail: Detail<'_>,
     task: Task<'_, '_>,
@@ -114,6 +119,7 @@ fn status_of<R: Files<File = File> + Input + Print + Eprint + AllocGlobal + Clon
                 named,
                 recursive,
                 from: None,
+                json: false,
             };
             edit_in_place(rt, &script, files, done, terms, detail)
         }

@@ -1,4 +1,6 @@
 //! What is done with each file that is read.
+ghost use Rattle.std.specs.Prelude.{◌≡◌, false, true, Some};
+ghost use Rattle.fits_tell.specs.declared.fault.Fault.TheVariants.{Memory};
 ghost use Rattle.fitsed.specs.Running.{AsksFile};
 
 use crate::detail::Detail;
@@ -6,6 +8,7 @@ use crate::explaining::INPUT;
 use crate::files::{is_stored, source_of};
 use crate::listed::{FileList, listed};
 use crate::piece::{Piece, script_of};
+use crate::progress::Progress;
 use crate::remarks::{before_remarks, remarks_after};
 use crate::reporting::{
     ends_all, report_changed, reported, reported_oddity, reported_of, reported_script,
@@ -17,6 +20,7 @@ use crate::words::oddity_of;
 use fits_cli::{
     CardChoice, End, Fault, Manner, Telling, run_ask, run_ask_stored, run_cards, run_telling,
 };
+use fits_json::{ANSWERS, CARDS, Column, JsonLines, LISTS, REPORTS, STATISTICS, SUMS};
 use fits_keys::{KeyChoice, heading, run_keys};
 use fits_stream::{NamedLines, ReadLog, Sink, Source, Watched};
 use fits_tell::print_at_once;
@@ -54,17 +58,33 @@ impl Job<'_> {
             _ => false,
         }
     }
+
+    // The forms of the lines that it prints. A table has none.
+    fn forms(&self) -> &'static [&'static [Column]] {
+        match *self {
+            Job::Ask { .. } => ANSWERS,
+            Job::Show(_) => CARDS,
+            Job::Table(_) => &[],
+            Job::Tell(telling) => forms_of(telling),
+        }
+    }
+}
+
+// The forms of the lines of a text.
+fn forms_of(telling: Telling) -> &'static [&'static [Column]] {
+    match telling {
+        Telling::List | Telling::LongList => LISTS,
+        Telling::Sums | Telling::WrongSums => SUMS,
+        Telling::Statistics => STATISTICS,
+        Telling::Report { .. } | Telling::Summary { .. } | Telling::Untouched => REPORTS,
+    }
 }
 
 /// Does a script on each file, and saves nothing. Over one file standard input is answered as it
 /// comes.
-pub fn ask<R: rt::Files<File = File> + Input + Print + Eprint + AllocGlobal + Clone + Drop>(
-    rt: &R,
-    script: &[Piece<'_>],
-    manner: Manner,
-    files: Inputs<'_, '_>,
-    detail: Detail<'_>,
-) -> u8 {
+pub fn ask<
+    R: rt::Files<File = File> + Input + Print + Eprint + rt::Clock + AllocGlobal + Clone + Drop,
+>(rt: &R, script: &[Piece<'_>], manner: Manner, files: Inputs<'_, '_>, detail: Detail<'_>) -> u8 {
     let alone = script.is_empty() && !files.recursive && files.from.is_none();
     if let (true, Some([path])) = (alone, files.paths) {
         let subject = Subject {
@@ -72,7 +92,7 @@ pub fn ask<R: rt::Files<File = File> + Input + Print + Eprint + AllocGlobal + Cl
             named: files.named,
             detail,
         };
-        return ask_as_it_comes(rt, manner, subject);
+        return ask_as_it_comes(rt, manner, subject, files.json);
     }
     match script_of(rt, script) {
         Ok(text) => {
@@ -87,12 +107,9 @@ pub fn ask<R: rt::Files<File = File> + Input + Print + Eprint + AllocGlobal + Cl
 }
 
 /// Does a job with each file. The status is the greatest.
-pub fn each<R: rt::Files<File = File> + Input + Print + Eprint + AllocGlobal + Clone + Drop>(
-    rt: &R,
-    job: Job<'_>,
-    files: Inputs<'_, '_>,
-    detail: Detail<'_>,
-) -> u8 {
+pub fn each<
+    R: rt::Files<File = File> + Input + Print + Eprint + rt::Clock + AllocGlobal + Clone + Drop,
+>(rt: &R, job: Job<'_>, files: Inputs<'_, '_>, detail: Detail<'_>) -> u8 {
     let Ok(mut out) = BufWriter::new(rt.alloc(), io::writer(rt)) else {
         return reported(rt, Fault::Memory);
     };
@@ -102,7 +119,9 @@ pub fn each<R: rt::Files<File = File> + Input + Print + Eprint + AllocGlobal + C
     if let Err(why) = begin(rt.alloc(), job, &mut out) {
         return reported(rt, why);
     }
+    let mut progress = Progress::of(detail.tells_progress(), paths.len());
     for path in &paths {
+        progress.begin(rt, path);
         if let Some(oddity) = oddity_of(path) {
             status = status.max(reported_oddity(rt, oddity));
             continue;
@@ -112,7 +131,11 @@ pub fn each<R: rt::Files<File = File> + Input + Print + Eprint + AllocGlobal + C
             named: files.named,
             detail,
         };
-        let end = one(rt, job, subject, &mut out);
+        let end = if files.json {
+            as_json(rt, job, subject, &mut out)
+        } else {
+            one(rt, job, subject, &mut out)
+        };
         status = status.max(end.status);
         if let Some(fault) = end.fault {
             let _status = reported_of(rt, subject, path, fault);
@@ -136,17 +159,15 @@ pub enum Sought<'s> {
 }
 
 /// Prints the names of the files in which what is sought is found, and ends each so.
-pub fn name<R: rt::Files<File = File> + Input + Print + Eprint + AllocGlobal + Clone + Drop>(
-    rt: &R,
-    sought: Sought<'_>,
-    files: Inputs<'_, '_>,
-    ends: char,
-    detail: Detail<'_>,
-) -> u8 {
+pub fn name<
+    R: rt::Files<File = File> + Input + Print + Eprint + rt::Clock + AllocGlobal + Clone + Drop,
+>(rt: &R, sought: Sought<'_>, files: Inputs<'_, '_>, ends: char, detail: Detail<'_>) -> u8 {
     let Ok(FileList { paths, mut status }) = listed(rt, files) else {
         return reported(rt, Fault::Memory);
     };
+    let mut progress = Progress::of(detail.tells_progress(), paths.len());
     for path in &paths {
+        progress.begin(rt, path);
         if let Some(oddity) = oddity_of(path) {
             status = status.max(reported_oddity(rt, oddity));
             continue;
@@ -233,11 +254,54 @@ fn one<R: rt::Files<File = File> + Eprint + AllocGlobal, W: Write>(
     run(rt, job, subject, file, &mut out)
 }
 
+// Does a job with a file, and prints each line as a JSON object.
+fn as_json<R: rt::Files<File = File> + Eprint + AllocGlobal, W: Write>(
+    rt: &R,
+    job: Job<'_>,
+    subject: Subject<'_>,
+    out: &mut W,
+) -> End {
+    let Ok(file) = fs::open(rt, subject.name) else {
+        return End::from(Fault::ReadFailed);
+    };
+    let mut lines = JsonLines::new(rt.alloc(), Watched::new(out), subject.name, job.forms());
+    let end = run(rt, job, subject, file, &mut lines);
+    end_over(end, &lines)
+}
+
+// How a run over such lines ends: where memory was refused for one its write only seems to have
+// failed.
+fn end_over<O: Sink>(end: End, lines: &JsonLines<'_, O>) -> End
+    ensures memory { lines.now.lacks ≡ true → result.fault ≡ Some Memory }
+    ensures same { lines.now.lacks ≡ false → result ≡ end }
+{
+    if lines.lacks_memory() {
+        End::from(Fault::Memory)
+    } else {
+        end
+    }
+}
+
+// Answers a script over a file, and prints each line as a JSON object.
+fn asked_as_json<S: Source, W: Write>(
+    alloc: Global,
+    manner: Manner,
+    subject: Subject<'_>,
+    file: File,
+    script: &mut S,
+    out: &mut W,
+) -> End {
+    let mut lines = JsonLines::new(alloc, Watched::new(out), subject.name, ANSWERS);
+    let end = asked(alloc, manner, subject, file, script, &mut lines);
+    end_over(end, &lines)
+}
+
 // Answers standard input over one file, as it comes.
 fn ask_as_it_comes<R: rt::Files<File = File> + Input + Print + Eprint + AllocGlobal>(
     rt: &R,
     manner: Manner,
     subject: Subject<'_>,
+    json: bool,
 ) -> u8 {
     let Ok(mut out) = BufWriter::new(rt.alloc(), io::writer(rt)) else {
         return reported(rt, Fault::Memory);
@@ -249,12 +313,16 @@ fn ask_as_it_comes<R: rt::Files<File = File> + Input + Print + Eprint + AllocGlo
         return reported(rt, Fault::Memory);
     };
     let mut script = Watched::new(rt.reader());
-    let mut out = Watched::new(&mut out);
-    let end = if subject.named {
-        let mut out = NamedLines::new(out, name.as_bytes());
-        asked(rt.alloc(), manner, subject, file, &mut script, &mut out)
+    let end = if json {
+        asked_as_json(rt.alloc(), manner, subject, file, &mut script, &mut out)
     } else {
-        asked(rt.alloc(), manner, subject, file, &mut script, &mut out)
+        let mut out = Watched::new(&mut out);
+        if subject.named {
+            let mut out = NamedLines::new(out, name.as_bytes());
+            asked(rt.alloc(), manner, subject, file, &mut script, &mut out)
+        } else {
+            asked(rt.alloc(), manner, subject, file, &mut script, &mut out)
+        }
     };
     match end.fault {
         Some(fault) => reported_of(rt, subject, INPUT, fault),

@@ -6,6 +6,7 @@ use fits_card::Name;
 use fits_cli::{CardChoice, Level, Manner, NamePattern, Telling};
 use fits_keys::KeyChoice;
 use fits_save::Saving;
+use fits_tell::{AskedExtension, AskedHdu};
 use std::alloc::{AllocError, Global};
 
 /// The options that have values.
@@ -113,6 +114,8 @@ pub struct Inputs<'m, 'a> {
     pub recursive: bool,
     /// The file that has the names of more, if one is given.
     pub from: Option<&'a str>,
+    /// Whether each line of its output is a JSON object.
+    pub json: bool,
 }
 
 /// Why words ask for nothing.
@@ -166,7 +169,7 @@ pub fn task_of<'m, 'a>(
             files,
         },
         "cards" if words.get_flag("files-without") => Task::Lack {
-            choices: each_of(alloc, &choice_of(alloc, words)?)?,
+            choices: each_of(alloc, words)?,
             files,
             end: name_end(words),
         },
@@ -298,6 +301,7 @@ fn files_of<'m, 'a>(words: &'m ArgMatches<'a>) -> Result<Inputs<'m, 'a>, TaskFau
         named: are_named(paths.unwrap_or(&[]), named)?,
         recursive,
         from,
+        json: words.get_flag("json"),
     })
 }
 
@@ -355,15 +359,7 @@ fn level_of(words: &ArgMatches<'_>) -> Level {
 
 // Which cards the words of `cards` ask for.
 fn choice_of<'a>(alloc: Global, words: &ArgMatches<'a>) -> Result<CardChoice, TaskFault<'a>> {
-    let mut hdus = Vec::new(alloc);
-    for word in words.get_strs("hdu").unwrap_or(&[]) {
-        let Ok(hdu) = word.parse::<u64>() else {
-            return Err(TaskFault::NotHdu(*word));
-        };
-        let Ok(()) = hdus.push(hdu) else {
-            return Err(TaskFault::Memory);
-        };
-    }
+    let hdus = hdus_of(alloc, words)?;
     let mut names = Vec::new(alloc);
     for word in words.get_strs("name").unwrap_or(&[]) {
         let Some(pattern) = NamePattern::of(word.as_bytes()) else {
@@ -376,21 +372,49 @@ fn choice_of<'a>(alloc: Global, words: &ArgMatches<'a>) -> Result<CardChoice, Ta
     Ok(CardChoice { hdus, names })
 }
 
+// Which HDUs they ask for.
+fn hdus_of<'a>(alloc: Global, words: &ArgMatches<'a>) -> Result<Vec<AskedHdu>, TaskFault<'a>> {
+    let mut hdus = Vec::new(alloc);
+    for word in words.get_strs("hdu").unwrap_or(&[]) {
+        let Ok(()) = hdus.push(hdu_of(alloc, word)?) else {
+            return Err(TaskFault::Memory);
+        };
+    }
+    Ok(hdus)
+}
+
+// The HDU that a word asks for: by its number, or by `@NAME` or `@NAME,VER`.
+fn hdu_of<'a>(alloc: Global, word: &'a str) -> Result<AskedHdu, TaskFault<'a>> {
+    match word.strip_prefix('@') {
+        Some(name) if !name.is_empty() => {
+            let asked = AskedExtension::of(alloc, name.as_bytes())?;
+            Ok(AskedHdu::Called(asked))
+        }
+        _ => match word.parse::<u64>() {
+            Ok(number) => Ok(AskedHdu::Number(number)),
+            Err(_) => Err(TaskFault::NotHdu(word)),
+        },
+    }
+}
+
 // What ends each name that is printed.
 fn name_end(words: &ArgMatches<'_>) -> char {
     if words.get_flag("null") { '\0' } else { '\n' }
 }
 
 // A choice of each name alone.
-fn each_of(alloc: Global, choice: &CardChoice) -> Result<Vec<CardChoice>, AllocError> {
+fn each_of<'a>(alloc: Global, words: &ArgMatches<'a>) -> Result<Vec<CardChoice>, TaskFault<'a>> {
+    let all = choice_of(alloc, words)?;
     let mut choices = Vec::new(alloc);
-    for name in &choice.names {
+    for name in &all.names {
         let mut names = Vec::new(alloc);
-        names.push(*name)?;
-        choices.push(CardChoice {
-            hdus: choice.hdus.to_vec(alloc)?,
-            names,
-        })?;
+        let Ok(()) = names.push(*name) else {
+            return Err(TaskFault::Memory);
+        };
+        let hdus = hdus_of(alloc, words)?;
+        let Ok(()) = choices.push(CardChoice { hdus, names }) else {
+            return Err(TaskFault::Memory);
+        };
     }
     Ok(choices)
 }
@@ -398,8 +422,8 @@ fn each_of(alloc: Global, choice: &CardChoice) -> Result<Vec<CardChoice>, AllocE
 // Which keywords the words of `keys` ask for.
 fn keys_of<'a>(alloc: Global, words: &ArgMatches<'a>) -> Result<KeyChoice, TaskFault<'a>> {
     let hdu = match words.get_str("hdu") {
-        Some(word) => word.parse::<u64>().map_err(|_| TaskFault::NotHdu(word))?,
-        None => 1,
+        Some(word) => hdu_of(alloc, word)?,
+        None => AskedHdu::Number(1),
     };
     let mut names = Vec::new(alloc);
     for word in words.get_strs("name").unwrap_or(&[]) {

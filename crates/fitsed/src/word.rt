@@ -25,6 +25,10 @@ pub enum Word {
     Backup,
     /// Whether each line begins with the name of its file.
     Named,
+    /// Whether each line is a JSON object.
+    Json,
+    /// The same, but not with this flag.
+    JsonUnless(&'static str),
     /// An HDU whose cards are printed.
     Hdu,
     /// A keyword whose cards are printed.
@@ -35,6 +39,10 @@ pub enum Word {
     RecursiveInPlace,
     /// A file with names of files to read.
     NamesFrom,
+    /// Whether it is told how far a run over several files has come.
+    Progress,
+    /// The same of files that are edited in place.
+    ProgressInPlace,
     /// Whether names of files lack a keyword that is asked for.
     Lacking,
     /// Whether a zero byte ends each name that is printed; and with which flag names are.
@@ -71,11 +79,15 @@ impl Word {
             Word::NoClobber => no_clobber(alloc),
             Word::Backup => Ok(backup(alloc)),
             Word::Named => Ok(named(alloc)),
+            Word::Json => Ok(json(alloc)),
+            Word::JsonUnless(flag) => json(alloc).conflicts_with(flag),
             Word::Recursive => Ok(recursive(alloc)),
             Word::RecursiveInPlace => recursive(alloc).requires_arg("in-place"),
             Word::Hdu => Ok(hdu(alloc)),
             Word::Name => Ok(name(alloc)),
             Word::NamesFrom => Ok(names_from(alloc)),
+            Word::Progress => Ok(progress(alloc)),
+            Word::ProgressInPlace => progress(alloc).requires_arg("in-place"),
             Word::Lacking => lacking(alloc),
             Word::Null(names) => null(alloc, names),
             Word::OneHdu => Ok(one_hdu(alloc)),
@@ -137,13 +149,20 @@ fn named<'a>(alloc: Global) -> Arg<'a> {
     flag(alloc, "with-filename", 'H', help)
 }
 
+fn json<'a>(alloc: Global) -> Arg<'a> {
+    Arg::new(alloc, "json")
+        .long("json")
+        .action(ArgAction::SetTrue)
+        .help("Print each line as a JSON object, which has the name of its file")
+}
+
 fn recursive<'a>(alloc: Global) -> Arg<'a> {
     let help = "Of a folder take the files below it that end in .fits, .fit, .fts or .fz";
     flag(alloc, "recursive", 'r', help)
 }
 
 fn hdu<'a>(alloc: Global) -> Arg<'a> {
-    let help = "Cards of this HDU alone; may be repeated";
+    let help = "Cards of this HDU alone: its number, @NAME or @NAME,VER; may be repeated";
     list(alloc, "hdu", 'u', "HDU", help)
 }
 
@@ -158,7 +177,9 @@ fn one_hdu<'a>(alloc: Global) -> Arg<'a> {
         .long("hdu")
         .value_name("HDU")
         .action(ArgAction::Set)
-        .help("The HDU that has the keywords, 1 where none is given")
+        .help(
+            "The HDU that has the keywords: its number, 1 where none is given, @NAME or @NAME,VER",
+        )
 }
 
 fn keyword<'a>(alloc: Global) -> Arg<'a> {
@@ -195,6 +216,13 @@ fn names_from<'a>(alloc: Global) -> Arg<'a> {
         .help(
             "Read the files too whose names FILE has, a zero byte after each; - for standard input",
         )
+}
+
+fn progress<'a>(alloc: Global) -> Arg<'a> {
+    Arg::new(alloc, "progress")
+        .long("progress")
+        .action(ArgAction::SetTrue)
+        .help("Write to standard error how far the files are done, once a second at most")
 }
 
 fn lacking<'a>(alloc: Global) -> Result<Arg<'a>, AllocError> {

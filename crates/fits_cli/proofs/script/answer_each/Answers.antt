@@ -1,0 +1,28 @@
+use Rattle.fits_extended.specs.Stands.{lines_in}
+use Rattle.fits_tell.proofs.ExitLemmas.{at_exit}
+use Rattle.fits_cli.proofs.RemarkLemmas.{said_last}
+use Rattle.fits_cli.proofs.EachLemmas.{StopsAs-each}
+use Rattle.fits_cli.proofs.FrameLemmas.{line_none, line_part}
+use Rattle.fits_cli.proofs.script.answer_each.Goals as goal
+
+pub returns-clause-ok : goal.returns-clause-ok
+returns-clause-ok g c steady = record {
+  said = record {
+    printed = rw (c.line-number.ensures, (c.in_ok-reply.ensures.text steady)) at c.in_ok-print_answer.ensures.ok;
+    told = said_last g.E.Sink.state c.args.runner.now.standing.line _ _ c.is_some-wanted.result _ _ c.args.told.now _
+        c.line-number.ensures c.is_some-wanted.ensures (c.in_ok-reply.ensures.remark steady) c.say.ensures;
+  };
+  left = (c.in_ok-reply.ensures.left steady);
+}
+
+pub returns-in_err-reply-clause-err : goal.returns-in_err-reply-clause-err
+returns-in_err-reply-clause-err g c steady = at_exit _ _ _ c.from_residual.ensures.1 (StopsAs-each _ c.args.runner.now.standing (lines_in c.args.plains.now) _ _ (c.in_err-reply.ensures.err steady))
+
+pub returns-clause-said : goal.returns-clause-said
+returns-clause-said g c = record { text = _; printed = c.in_ok-print_answer.ensures.ok }
+
+pub returns-in_err-reply-clause-leaves : goal.returns-in_err-reply-clause-leaves
+returns-in_err-reply-clause-leaves g c = at_exit _ _ _ c.from_residual.ensures.1 (line_none _ c.in_err-reply.field-0.0 c.in_err-reply.ensures.unanswered)
+
+pub returns-in_err-print_answer-clause-leaves : goal.returns-in_err-print_answer-clause-leaves
+returns-in_err-print_answer-clause-leaves g c = at_exit _ _ _ c.from_residual-in_err-print_answer.ensures.1 (line_part _ _ _ c.in_err-print_answer.field-0.0 c.in_err-print_answer.ensures.err)

@@ -1,0 +1,4 @@
+pub mod Columns
+pub mod JsonLines
+pub mod Objects
+pub mod Values
