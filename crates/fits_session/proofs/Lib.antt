@@ -2,6 +2,7 @@ pub mod AwayLemmas
 pub mod ChangeLemmas
 pub mod CountLemmas
 pub mod EditLemmas
+pub mod FilledLemmas
 pub mod GuardLemmas
 pub mod HadLemmas
 pub mod KeptLemmas

@@ -148,7 +148,7 @@ impl<H: Holder + Drop> Session<H> {
     ghost use Rattle.fits_hdu.specs.Work.{IsOpened};
     ghost use Rattle.fits_passing.specs.File.{file_bytes, IsFile};
     ghost use Rattle.fits_session.specs.Marked.{unmarked};
-    ghost use Rattle.fits_session.specs.Session.{file_of, marked_of, state_of, EditsTo, IsReadyFor};
+    ghost use Rattle.fits_session.specs.Session.{file_of, marked_of, session_at, state_of, EditsTo, IsReadyFor, IsSeen};
     ghost use Rattle.fits_making.specs.Making.{IsHad};
 
     // The session of the HDUs of a file, how many bytes it has, and the bytes after the last HDU.
@@ -169,8 +169,11 @@ impl<H: Holder + Drop> Session<H> {
         ensures unmarked { IfOk result (λ session. marked_of session
             ≡ unmarked (file_of session)) }
         ensures opened { IfOk result (λ session. All (IsOpened name_reads) session.hdus) }
-        ensures lie { (bytes : List ℕ) → AllLie bytes parts.0.items
-            → IfOk result (λ session. AllLie bytes session.hdus) }
+        ensures at { (told : List ℕ) → IfOk result (λ session. file_of (session_at told session)
+            ≡ file_of (session_at told (state_of parts.0.items parts.2.items))) }
+        ensures lie { (told : List ℕ) → AllLie told parts.0.items
+            → IfOk result (λ session. AllLie told session.hdus) }
+        ensures seen { All IsSeen parts.0.items → IfOk result (λ session. All IsSeen session.hdus) }
     {
         let (mut hdus, len, tail) = parts;
         let names = name_all(alloc, &mut hdus)?;

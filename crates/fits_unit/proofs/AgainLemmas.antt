@@ -1,5 +1,5 @@
 -- Bytes of a stored file that are read again.
-use Rattle.std.proofs.Common.{◌≡◌, ◌+◌, ◌<◌, ◌≤◌, ◌%◌, ◌/◌, ℕ, List, [], ◌++◌, length, min, take, drop, ap, sym, ◌∙◌, arith, subst, append_assoc, Option, Some}
+use Rattle.std.proofs.Common.{◌≡◌, ◌+◌, ◌<◌, ◌≤◌, ◌%◌, ◌/◌, ℕ, List, [], ◌++◌, length, min, take, drop, ap, sym, ◌∙◌, arith, subst, append_assoc, true, Option, Some}
 use Rattle.std.proofs.lemmas.List.{append-nil, length-append, length-drop, length-take, take-append-drop, take-take, take_all}
 use Rattle.std.proofs.Math.Seq.{take-append_seam}
 use Rattle.std.specs.List.{slice_get}
@@ -13,6 +13,7 @@ use Rattle.fits_stream.proofs.StreamLemmas.{PrintsFront-longer, Reads-more}
 use Rattle.fits_sum.specs.Words.{word_total}
 use Rattle.fits_sum.proofs.WordLemmas.{word_total-append}
 use Rattle.fits_unit.specs.Again.{CopyFails, CopyNextStops, CopyStops, Follows, LoadStops, NextShort, NextStops, ReadsFewer}
+use Rattle.fits_unit.specs.DataUnit.{Absence, Lies}
 use Rattle.fits_unit.specs.declared.again.CopyFault.{CopyFault}
 use Rattle.fits_unit.specs.declared.again.CopyFault.TheVariants.{Failed, Changed, Write}
 use Rattle.fits_unit.specs.declared.again.LoadFault.{LoadFault}
@@ -107,6 +108,34 @@ copy_fails xs unit place log log' old new Changed is lies p =
 copy_fails xs unit place log log' old new Write is lies p =
     let front = front_read xs unit p.bytes p.rest place log log' p.read is lies p.few in
     subst (λ t. PrintsFront t old new) (ap (λ t. t ++ drop (length p.bytes) unit) (sym front) ∙ take-append-drop (length p.bytes) unit) (PrintsFront-longer old new p.bytes (drop (length p.bytes) unit) p.ends)
+
+-- what lies at its place is as long as it
+pub there_long : (xs own : List ℕ) (it : Absence) → Lies xs own it → length (take (length own) (drop it.place xs)) ≡ length own
+there_long xs own it lies = omega (arith, lies.there, length-drop it.place xs, length-take (length own) (drop it.place xs))
+
+-- and all of what lies there
+there_whole : (xs own : List ℕ) (it : Absence) → Lies xs own it → take (length (take (length own) (drop it.place xs))) (drop it.place xs) ≡ take (length own) (drop it.place xs)
+there_whole xs own it lies = ap (λ n. take n (drop it.place xs)) (there_long xs own it lies)
+
+-- what was read from its place on is what lies there
+pub read_there : (xs own bytes : List ℕ) (it : Absence) (old new : ReadLogState) → ReadsOn it.place old new bytes → IsOf xs new → Lies xs own it → length bytes ≡ length own → bytes ≡ take (length own) (drop it.place xs)
+read_there xs own bytes it old new p is lies size =
+    unit_read xs (take (length own) (drop it.place xs)) bytes it.place old new p is (there_whole xs own it lies) (size ∙ sym (there_long xs own it lies))
+
+-- and where it is known, that is it
+pub read_known : (xs own bytes : List ℕ) (it : Absence) (old new : ReadLogState) → ReadsOn it.place old new bytes → IsOf xs new → Lies xs own it → length bytes ≡ length own → it.known ≡ true → bytes ≡ own
+read_known xs own bytes it old new p is lies size known = read_there xs own bytes it old new p is lies size ∙ lies.same known
+
+-- what lies there isn't copied whole for these reasons alone
+pub copy_fails_there : (xs own : List ℕ) (it : Absence) (log log' : ReadLogState) (old new : SinkState) (why : CopyFault) → IsOf xs log' → Lies xs own it → CopyStops it.place (length own) log log' old new why → CopyFails (take (length own) (drop it.place xs)) old new why
+copy_fails_there xs own it log log' old new why is lies p =
+    copy_fails xs (take (length own) (drop it.place xs)) it.place log log' old new why is (there_whole xs own it lies) (subst (λ n. CopyStops it.place n log log' old new why) (sym (there_long xs own it lies)) p)
+
+-- bytes that lie there pass by, or a read failed: there aren't fewer
+pub load_steady : (xs own : List ℕ) (it : Absence) (log log' : ReadLogState) → IsOf xs log' → Lies xs own it → LoadStops it.place (length own) log log' load.Changed → ⊥
+load_steady xs own it log log' is lies p =
+    let end : length xs ≤ it.place + length p.bytes = is.ends p.ended.0 (it.place + length p.bytes) p.ended.1 in
+    omega (arith, end, p.short, lies.there)
 
 -- a log goes on, also where bytes weren't copied
 pub copy_follows : (place len : ℕ) (log log' : ReadLogState) (old new : SinkState) (why : CopyFault) → CopyStops place len log log' old new why → Follows log log'

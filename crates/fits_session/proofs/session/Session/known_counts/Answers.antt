@@ -3,10 +3,13 @@ use Rattle.std.proofs.Common.{arith, not, sym, ap, ◌∙◌}
 use Rattle.fits_session.proofs.CountLemmas.{counts_alone, counts_followed}
 use Rattle.fits_session.proofs.KeptLemmas.{kept_named}
 use Rattle.fits_session.proofs.WalkLemmas.{followed_seen}
-use Rattle.fits_session.proofs.session.Session.counts.Goals as goal
+use Rattle.fits_session.proofs.session.Session.known_counts.Goals as goal
 
-pub counts_of-counts-requires : goal.counts_of-counts-requires
-counts_of-counts-requires g c = kept_named _ c.self.inside.hdus.items c.self.inside.tail.items c.self.inside.len c.self.inside.names.numbers.items c.self.inside.names.room c.self.invariant
+pub counts_of-counts-requires-clause-seen : goal.counts_of-counts-requires-clause-seen
+counts_of-counts-requires-clause-seen g c = rw (← c.self.view_is) at c.requires
+
+pub counts_of-counts-requires-clause-named : goal.counts_of-counts-requires-clause-named
+counts_of-counts-requires-clause-named g c = kept_named _ c.self.inside.hdus.items c.self.inside.tail.items c.self.inside.len c.self.inside.names.numbers.items c.self.inside.names.room c.self.invariant
 
 pub returns-then-is_empty-clause-value : goal.returns-then-is_empty-clause-value
 returns-then-is_empty-clause-value g c =

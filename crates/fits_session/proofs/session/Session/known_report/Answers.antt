@@ -3,10 +3,13 @@ use Rattle.std.proofs.lemmas.Grind.{common_steps}
 use Rattle.fits_session.proofs.CountLemmas.{report_is}
 use Rattle.fits_session.proofs.KeptLemmas.{kept_named}
 use Rattle.fits_session.proofs.WalkLemmas.{followed_seen}
-use Rattle.fits_session.proofs.session.Session.report.Goals as goal
+use Rattle.fits_session.proofs.session.Session.known_report.Goals as goal
 
-pub problems-requires : goal.problems-requires
-problems-requires g c = kept_named _ c.self.inside.hdus.items c.self.inside.tail.items c.self.inside.len c.self.inside.names.numbers.items c.self.inside.names.room c.self.invariant
+pub problems-requires-clause-seen : goal.problems-requires-clause-seen
+problems-requires-clause-seen g c = rw (← c.self.view_is) at c.requires
+
+pub problems-requires-clause-named : goal.problems-requires-clause-named
+problems-requires-clause-named g c = kept_named _ c.self.inside.hdus.items c.self.inside.tail.items c.self.inside.len c.self.inside.names.numbers.items c.self.inside.names.room c.self.invariant
 
 pub returns-clause-value : goal.returns-clause-value
 returns-clause-value g c =
