@@ -1,3 +1,4 @@
+pub mod HeaderLemmas
 pub mod HistoryLemmas
 pub mod LeadLemmas
 pub mod PlainsLemmas

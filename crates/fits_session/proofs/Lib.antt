@@ -5,6 +5,7 @@ pub mod EditLemmas
 pub mod FilledLemmas
 pub mod GuardLemmas
 pub mod HadLemmas
+pub mod HeaderLemmas
 pub mod KeptLemmas
 pub mod LawLemmas
 pub mod ListEditLemmas

@@ -6,8 +6,8 @@ use Rattle.fits_session.proofs.QueryLemmas.{kept_said, kept_sums}
 use Rattle.fits_session.proofs.StateLemmas.{is_at, file_within, part_there}
 use Rattle.fits_session.proofs.session.Session.kept.Goals as goal
 
-pub verdicts-verdicts-requires : goal.verdicts-verdicts-requires
-verdicts-verdicts-requires g c =
+pub verdicts-verdicts-requires-clause-small : goal.verdicts-verdicts-requires-clause-small
+verdicts-verdicts-requires-clause-small g c =
     let part = part_there c.self.inside.hdus.items c.self.inside.tail.items c.args.h c.in_ok-i.i c.index-hdu.result.now
     (is_at c.self.inside.hdus.items c.deref.result.now c.args.h c.args.h c.in_ok-i.i c.index-hdu.result.now c.deref.ensures.value refl c.in_ok-i.ensures.found c.index-hdu.ensures) in
     omega (arith, part, (file_within c.self.inside.hdus.items c.self.inside.tail.items c.self.invariant.whole).0)

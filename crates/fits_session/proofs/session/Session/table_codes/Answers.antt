@@ -70,3 +70,14 @@ returns-clause-stays g c = record {
       let at = (is_at c.self.inside.hdus.items c.deref.result.now c.args.h c.args.h c.in_ok-i.i c.index_mut-hdu.result.now c.deref.ensures.value refl c.in_ok-i.ensures.found c.index_mut-hdu.ensures.value) in
       seen_same (set c.self.inside.hdus.items c.in_ok-i.i c.table_codes.new.self) c.self.inside.hdus.items (absences_of-same c.self.inside.hdus.items c.in_ok-i.i c.index_mut-hdu.result.now c.table_codes.new.self at.index.within at.is c.table_codes.ensures.work.absent) own;
 }
+
+-- no data unit lies elsewhere
+pub returns-in_err-codes-clause-absences : goal.returns-in_err-codes-clause-absences
+returns-in_err-codes-clause-absences g c =
+    let at = (is_at c.self.inside.hdus.items c.deref.result.now c.args.h c.args.h c.in_ok-i.i c.index_mut-hdu.result.now c.deref.ensures.value refl c.in_ok-i.ensures.found c.index_mut-hdu.ensures.value) in
+    rw (← c.self.view_is) (absences_of-same c.self.inside.hdus.items c.in_ok-i.i c.index_mut-hdu.result.now c.table_codes.new.self at.index.within at.is c.table_codes.ensures.work.absent)
+
+pub returns-clause-absences : goal.returns-clause-absences
+returns-clause-absences g c =
+    let at = (is_at c.self.inside.hdus.items c.deref.result.now c.args.h c.args.h c.in_ok-i.i c.index_mut-hdu.result.now c.deref.ensures.value refl c.in_ok-i.ensures.found c.index_mut-hdu.ensures.value) in
+    rw (← c.self.view_is) (absences_of-same c.self.inside.hdus.items c.in_ok-i.i c.index_mut-hdu.result.now c.table_codes.new.self at.index.within at.is c.table_codes.ensures.work.absent)
