@@ -1,10 +1,10 @@
-use Rattle.std.proofs.Common.{All, ◌≡◌, ◌∙◌, ◌∷◌, ◌+◌, ◌≤◌, ◌^◌, List, ℕ, ap, arith, length, subst, sym, true, refl}
+use Rattle.std.proofs.Common.{All, ◌≡◌, ◌∙◌, ◌∷◌, ◌+◌, ◌≤◌, ◌^◌, ◌++◌, [], List, ℕ, ap, arith, length, map, subst, sym, true}
 use Rattle.std.proofs.lemmas.List.{length-append}
 use Rattle.std.proofs.lemmas.List.Elements.{All-head, All-nil, All-push, All-tail}
 use Rattle.fits_card.specs.Header.{header_bytes}
 use Rattle.fits_passing.specs.Hdu.{hdu_bytes}
-use Rattle.fits_passing.specs.Met.{hdu_end, hdus_end, unit_place, AllLieThere, AllPassed, AreMet, IsMet}
-use Rattle.fits_hdu.specs.State.{HduState, parts_of, IsSeen}
+use Rattle.fits_passing.specs.Met.{all_there, parts_met, hdu_end, hdus_end, unit_place, AllLieThere, AllPassed, AreMet, IsMet}
+use Rattle.fits_hdu.specs.State.{HduState, hdu_at, parts_of, IsSeen}
 use Rattle.fits_hdu.specs.Work.{IsOpenedAt}
 use Rattle.fits_making.specs.Making.{IsHad}
 use Rattle.fits_passing.specs.declared.passed_hdu.PassedHdu.{PassedHdu}
@@ -16,16 +16,20 @@ use Rattle.fits_session.proofs.AwayLemmas.{end_least, had_placed, joined_push, o
 use Rattle.fits_session.proofs.placing.placed.Goals as goal
 
 pub loop-it-init : goal.loop-it-init
-loop-it-init c = record {
-  there = λ told. refl;
-  lie = λ told lie. (All-nil (IsHad (in_file told)), lie);
-  parts = refl;
-  end = refl;
-  few = c.requires.few;
-  opened = tt;
-  met = c.requires.met;
-  seen = λ passed. (All-nil IsSeen, passed);
-}
+loop-it-init c =
+    let none : c.new-hdus.result.items ≡ [] = c.new-hdus.ensures.items in
+    let rest : List PassedHdu = c.into_iter-it-iterator.result.rest.items in
+    let same : rest ≡ c.args.passed.items = c.into_iter-it-iterator.ensures.into_iter_gives.0 in
+    record {
+      there = λ told. ap (λ (hdus : List HduState). hdus_of (map (hdu_at told) hdus) ++ all_there told 0 rest) none ∙ ap (all_there told 0) same;
+      lie = λ told lie. (subst (AllLie told) (sym none) (All-nil (IsHad (in_file told))), subst (AllLieThere told 0) (sym same) lie);
+      parts = ap (λ (hdus : List HduState). hdus_of hdus ++ map parts_met rest) none ∙ ap (map parts_met) same;
+      end = sym (ap (λ (hdus : List HduState). length (joined_hdus (hdus_of hdus))) none);
+      few = subst (λ (ks : List PassedHdu). hdus_end 0 ks ≤ 2 ^ 34) (sym same) c.requires.few;
+      opened = subst (AreOpenedFrom 0) (sym none) tt;
+      met = subst AreMet (sym same) c.requires.met;
+      seen = λ passed. (subst (All IsSeen) (sym none) (All-nil IsSeen), subst AllPassed (sym same) passed);
+    }
 
 pub byte_len-requires : goal.byte_len-requires
 byte_len-requires c =
