@@ -16,10 +16,10 @@ pub returns-clause-value : goal.returns-clause-value
 returns-clause-value g c =
     rw (← c.self.view_is) (kept_said c.self.inside.hdus.items c.self.inside.tail.items c.args.h c.in_ok-i.i c.index-hdu.result.now c.is_kept.result
     (is_at c.self.inside.hdus.items c.deref.result.now c.args.h c.args.h c.in_ok-i.i c.index-hdu.result.now c.deref.ensures.value refl c.in_ok-i.ensures.found c.index-hdu.ensures)
-    (c.is_kept.ensures ∙ ap (λ mark. mark && are_right c.verdicts-verdicts.result) c.kept.ensures ∙ ap (λ (v : Verdicts). c.index-hdu.result.now.kept && are_right v) c.verdicts-verdicts.ensures))
+    (c.is_kept.ensures ∙ ap (λ mark. mark && are_right c.verdicts-verdicts.result) c.kept-2.ensures ∙ ap (λ (v : Verdicts). c.index-hdu.result.now.kept && are_right v) c.verdicts-verdicts.ensures))
 
 pub returns-clause-right : goal.returns-clause-right
 returns-clause-right g c on =
     rw (← c.self.view_is) (kept_sums c.self.inside.hdus.items c.self.inside.tail.items c.args.h c.in_ok-i.i c.index-hdu.result.now c.is_kept.result
     (is_at c.self.inside.hdus.items c.deref.result.now c.args.h c.args.h c.in_ok-i.i c.index-hdu.result.now c.deref.ensures.value refl c.in_ok-i.ensures.found c.index-hdu.ensures)
-    (c.is_kept.ensures ∙ ap (λ mark. mark && are_right c.verdicts-verdicts.result) c.kept.ensures ∙ ap (λ (v : Verdicts). c.index-hdu.result.now.kept && are_right v) c.verdicts-verdicts.ensures) on)
+    (c.is_kept.ensures ∙ ap (λ mark. mark && are_right c.verdicts-verdicts.result) c.kept-2.ensures ∙ ap (λ (v : Verdicts). c.index-hdu.result.now.kept && are_right v) c.verdicts-verdicts.ensures) on)

@@ -12,7 +12,7 @@ use Rattle.fits_session.specs.Session.{IsSeen, hdus_of}
 use Rattle.fits_making.specs.Making.{Holding}
 use Rattle.fits_session.proofs.KeptLemmas.{seen_same, absences_counted, marked_counted, kept_counted}
 use Rattle.fits_session.proofs.HadLemmas.{kept_in}
-use Rattle.fits_session.proofs.SaveLemmas.{copy_hdus}
+use Rattle.fits_session.proofs.SaveLemmas.{copy_hdus, like_tail}
 use Rattle.fits_session.proofs.session.Session.write.Goals as goal
 
 -- the HDUs were read, and nothing else of them changes
@@ -108,3 +108,9 @@ returns-clause-absences g c = rw (← c.self.view_is) (absences_counted c.self.i
 pub returns-in_default-clause-absences : goal.returns-in_default-clause-absences
 returns-in_default-clause-absences g c = rw (← c.self.view_is) (absences_counted c.self.inside.hdus.items c.write_hdus.new.hdus.items c.write_hdus.ensures.work.hdus)
 
+
+-- they are as many, and where all are known have the same total
+pub returns-clause-like : goal.returns-clause-like
+returns-clause-like g c =
+    let tail = subst (λ t. Prints t (g.W.Sink.state c.write_hdus.new.sink) (g.W.Sink.state c.write_all.new.sink)) c.deref.ensures.value c.in-Ok.ensures.ok in
+    rw (← c.self.view_is) (like_tail c.self.inside.hdus.items (hdus_of c.self.inside.hdus.items) c.self.inside.tail.items (g.W.Sink.state c.args.sink.now) (g.W.Sink.state c.write_hdus.new.sink) (g.W.Sink.state c.write_all.new.sink) c.in_ok-write_hdus.ensures.words c.in_ok-write_hdus.ensures.like tail)
