@@ -8,6 +8,7 @@ pub mod GuardLemmas
 pub mod LinesLemmas
 pub mod NewErrorLemmas
 pub mod NewTableLemmas
+pub mod OverLemmas
 pub mod PixelAnswerLemmas
 pub mod PlacesLemmas
 pub mod PlainsLemmas

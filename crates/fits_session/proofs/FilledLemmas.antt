@@ -255,7 +255,7 @@ alike_array (Ok shape) kind axes hdu unit none = rw none refl
 alike_array (Err place) kind axes hdu unit none = refl
 
 -- so is what an edit makes that looks at none of them
-alike_made : (primary : Bool) (edit : HduEdit) (hdu : HduParts) (unit : List ℕ) → LooksAtNone primary edit hdu → length unit ≡ length hdu.data_unit → AreAlike (hdu_made primary edit hdu) (made_filled (Some unit) (hdu_made primary edit hdu))
+pub alike_made : (primary : Bool) (edit : HduEdit) (hdu : HduParts) (unit : List ℕ) → LooksAtNone primary edit hdu → length unit ≡ length hdu.data_unit → AreAlike (hdu_made primary edit hdu) (made_filled (Some unit) (hdu_made primary edit hdu))
 unfolding hdu_made reshaped
 alike_made primary (Cards edit) hdu unit p long = alike_changed primary hdu unit (change_of hdu.header.cards edit) long
 alike_made primary (Pixels lo hi paint) hdu unit p long = alike_painted (shape_of primary hdu.header.cards) lo hi (plane_paint paint) hdu unit p

@@ -1,17 +1,23 @@
 -- What is asked of headers alone has the same answers in files with the same headers.
 use Rattle.std.proofs.Common.{◌≡◌, ℕ, zero, suc, List, [], ◌∷◌, length, map, refl, ap, sym, ◌∙◌}
-use Rattle.std.specs.Prelude.{ok_or, Result, Ok}
+use Rattle.std.specs.Prelude.{ok_or, Bool, Result, Ok}
 use Rattle.std.specs.List.{slice_get}
 use Rattle.std.proofs.lemmas.List.{length-map}
 use Rattle.fits_card.specs.Header.{Header}
 use Rattle.fits_header.specs.Places.{keyword_places}
 use Rattle.fits_passing.specs.Hdu.{HduParts}
-use Rattle.fits_passing.specs.File.{FileParts}
+use Rattle.fits_passing.specs.File.{is_primary_hdu, FileParts}
 use Rattle.fits_hdu.specs.Keyword.{keyword_value}
 use Rattle.fits_hdu.specs.State.{HduState, card_placed, hdu_at, parts_of}
+use Rattle.fits_edit.specs.declared.card_edit.CardEdit.{CardEdit}
+use Rattle.fits_edit.specs.declared.edit.Edit.{Edit}
+use Rattle.fits_edit.specs.declared.edit.Edit.TheVariants.{Hdu, NewImage, RemoveHdu}
+use Rattle.fits_edit.specs.declared.hdu_edit.HduEdit.TheVariants.{Cards, Keep, Pixels, Release, Reshape, Stamp}
+use Rattle.fits_making.specs.Columns.{cards_keep}
 use Rattle.fits_making.specs.declared.refusal.Refusal.{Refusal}
 use Rattle.fits_making.specs.declared.refusal.Refusal.TheVariants.{NoCard}
 use Rattle.fits_session.specs.Edit.{hdu_of}
+use Rattle.fits_session.specs.Marked.{edit_keeps, hdu_keeps}
 use Rattle.fits_session.specs.Query.{card_count_in, card_in, in_hdu, or_refused, positions_in, value_in}
 use Rattle.fits_session.specs.Session.{file_of, hdus_of, session_at, SessionState}
 
@@ -65,3 +71,27 @@ headers_told told session = each session.hdus where
   each : (hdus : List HduState) → map header_of (hdus_of (map (hdu_at told) hdus)) ≡ map header_of (hdus_of hdus)
   each [] = refl
   each (hdu ∷ hdus) = ap (λ (headers : List Header). hdu.header.header ∷ headers) (each hdus)
+
+-- whether an edit of the cards of an HDU at an index keeps the columns of a table goes by its header
+keeps_at : (primary : Bool) (edit : CardEdit) (us vs : List HduParts) (i : ℕ) → map header_of us ≡ map header_of vs → hdu_keeps primary edit (slice_get us i) ≡ hdu_keeps primary edit (slice_get vs i)
+keeps_at primary edit [] [] i same = refl
+keeps_at primary edit [] (v ∷ vs) i same = absurd (cc)
+keeps_at primary edit (u ∷ us) [] i same = absurd (cc)
+keeps_at primary edit (u ∷ us) (v ∷ vs) zero same = let own : u.header ≡ v.header = cc in ap (λ (it : Header). cards_keep primary it.cards edit) own
+keeps_at primary edit (u ∷ us) (v ∷ vs) (suc i) same = let rest : map header_of us ≡ map header_of vs = cc in keeps_at primary edit us vs i rest
+
+-- and of HDU h
+keeps_of : (primary : Bool) (edit : CardEdit) (file other : FileParts) (h : ℕ) → headers_of file ≡ headers_of other → hdu_keeps primary edit (hdu_of file h) ≡ hdu_keeps primary edit (hdu_of other h)
+keeps_of primary edit file other zero same = refl
+keeps_of primary edit file other (suc h) same = keeps_at primary edit file.hdus other.hdus h same
+
+-- so any edit keeps them alike
+pub keeps_alike : (file other : FileParts) → headers_of file ≡ headers_of other → (edit : Edit) → edit_keeps file edit ≡ edit_keeps other edit
+keeps_alike file other same (Hdu h (Cards edit)) = keeps_of (is_primary_hdu h) edit file other h same
+keeps_alike file other same (Hdu h (Pixels lo hi paint)) = refl
+keeps_alike file other same (Hdu h (Reshape kind axes)) = refl
+keeps_alike file other same (Hdu h Stamp) = refl
+keeps_alike file other same (Hdu h Keep) = refl
+keeps_alike file other same (Hdu h Release) = refl
+keeps_alike file other same (NewImage h kind axes) = refl
+keeps_alike file other same (RemoveHdu h) = refl

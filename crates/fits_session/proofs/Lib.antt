@@ -21,5 +21,6 @@ pub mod SaveLemmas
 pub mod StandingLemmas
 pub mod StateLemmas
 pub mod TableLemmas
+pub mod ToldLemmas
 pub mod VouchLemmas
 pub mod WalkLemmas

@@ -142,13 +142,14 @@ impl Session {
 }
 
 impl<H: Holder + Drop> Session<H> {
-    ghost use Rattle.std.specs.Prelude.{◌≡◌, ℕ, List, length, None, All, IfOk};
-    ghost use Rattle.fits_session.specs.Away.{AllLie, LieStill};
+    ghost use Rattle.std.specs.Prelude.{◌≡◌, ℕ, List, true, length, None, All, IfOk};
+    ghost use Rattle.fits_session.specs.Away.{AllLie, EditsOver, LieStill};
     ghost use Rattle.fits_passing.specs.Work.{name_reads};
+    ghost use Rattle.fits_hdu.specs.State.{IsDescribed};
     ghost use Rattle.fits_hdu.specs.Work.{IsOpened};
     ghost use Rattle.fits_passing.specs.File.{file_bytes, IsFile};
     ghost use Rattle.fits_session.specs.Marked.{unmarked};
-    ghost use Rattle.fits_session.specs.Session.{file_of, marked_of, session_at, state_of, EditsTo, IsReadyFor, IsSeen};
+    ghost use Rattle.fits_session.specs.Session.{file_of, marked_of, session_at, state_of, EditsTo, IsHeld, IsReadyFor, IsSeen};
     ghost use Rattle.fits_making.specs.Making.{IsHad};
 
     // The session of the HDUs of a file, how many bytes it has, and the bytes after the last HDU.
@@ -193,12 +194,25 @@ impl<H: Holder + Drop> Session<H> {
         requires { IsReadyFor edit self.old.hdus }
         ensures edits { EditsTo edit self.old self.new result }
         ensures stays { LieStill self.old.hdus self.new.hdus }
+        ensures over { (told : List ℕ) → AllLie told self.old.hdus
+            → EditsOver told edit self.old self.new result }
     {
+        self.is_sound();
         match &edit {
             Edit::Hdu { hdu, edit } => self.edit_hdu(*hdu, edit),
             Edit::NewImage { at, kind, axes } => self.put_image(*at, *kind, axes),
             Edit::RemoveHdu { hdu } => self.take_out(*hdu),
         }
+    }
+
+    /// That its HDUs are those of a file, that the cards of each describe the shape that is kept of
+    /// them, and that all data units are in memory where they are had so.
+    pub fn is_sound(&self)
+        ensures whole { IsFile (file_of self.now) }
+        ensures described { All IsDescribed self.now.hdus }
+        ensures held { H.whole ≡ true → All IsHeld self.now.hdus }
+    {
+        let _hdus = self.hdus.len();
     }
 }
 
