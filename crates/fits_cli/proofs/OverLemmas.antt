@@ -1,7 +1,9 @@
 -- What a command comes to over each file that the data units of a session may lie in.
 use Rattle.std.proofs.Common.{◌≡◌, ℕ, ◌<◌, Bool, true, false, All, List, [], length, Option, None, Some, Result, Ok, Err, ap, refl, sym, subst, ◌∙◌}
-use Rattle.std.specs.Prelude.{◌||◌, not, IsOk, IsOkAnd, ℤ}
+use Rattle.std.specs.Prelude.{IfOk, IsOk, IsOkAnd, OnOk, ℤ}
 use Rattle.fits_edit.specs.declared.edit.Edit.{Edit as SessionEdit}
+use Rattle.fits_edit.specs.declared.edit.Edit.TheVariants.{Hdu, NewImage, RemoveHdu}
+use Rattle.fits_making.specs.Keeping.{stamp_follows}
 use Rattle.fits_hdu.specs.State.{IsDescribed, IsSeen}
 use Rattle.fits_making.specs.declared.refusal.Refusal.{Refusal}
 use Rattle.fits_making.specs.declared.refusal.Refusal.TheVariants.{Memory}
@@ -15,9 +17,9 @@ use Rattle.fits_passing.specs.declared.verdicts.Verdicts.{Verdicts}
 use Rattle.fits_passing.specs.Sums.{data_sum, verdicts_of}
 use Rattle.fits_session.specs.Away.{AllLie}
 use Rattle.fits_session.specs.Edit.{hdu_of}
-use Rattle.fits_session.specs.Marked.{guarded, is_stamped_after, kept_in, marked_after, marked_refusal, Marked}
+use Rattle.fits_session.specs.Marked.{column_refusal, edit_keeps, guarded, is_kept, is_stamped_after, kept_in, marked_after, marked_refusal, Marked}
 use Rattle.fits_session.specs.Query.{datasum_in, in_hdu, positions_in, rect_in, stats_in, value_in, verdicts_in}
-use Rattle.fits_session.specs.Refusal.{EditNeedsMemory}
+use Rattle.fits_session.specs.Refusal.{refusal_in, EditNeedsMemory}
 use Rattle.fits_session.specs.Session.{absences_after, absences_of, file_of, kept_of, marked_of, session_at, SessionState}
 use Rattle.fits_session.proofs.AwayLemmas.{kept_at_told}
 use Rattle.fits_session.proofs.HeaderLemmas.{headers_told, keeps_alike, places_alike, value_alike}
@@ -27,10 +29,15 @@ use Rattle.fits_script.specs.declared.command.Command.TheVariants.{Nothing, Edit
 use Rattle.fits_tell.specs.PixelLines.{statistics_line, sums_line, values_line}
 use Rattle.fits_tell.specs.Report.{report_text}
 use Rattle.fits_tell.specs.declared.level.Level.TheVariants as level
-use Rattle.fits_cli.specs.Answer.{absences_left, asked, keeps_tables, kept_line, offset_lines, outcome_of, places_line, some_places, sums_asked, unless, CommandFails, Done, IsReady, OutcomeNeedsMemory}
+use Rattle.fits_cli.specs.Answer.{absences_left, asked, kept_line, offset_lines, outcome_of, places_line, some_places, sums_asked, unless, CommandFails, Done, IsReady, OutcomeNeedsMemory}
 use Rattle.fits_cli.specs.ValueLine.{value_line}
-use Rattle.fits_cli.proofs.GuardLemmas.{fails_refused}
+use Rattle.fits_cli.proofs.GuardLemmas.{after_guarded, fails_refused}
 use Rattle.fits_cli.proofs.RefusalLemmas.{CommandFails-by}
+
+-- what is so of a result that is there, and beside it
+pub ok_both : {X E : Type 0} (result : Result X E) (P : X → Type 0) (Q : Type 0) (R : X → Type 0) → ((x : X) → P x → Q → R x) → IfOk result P → OnOk result Q → IfOk result R
+ok_both (Ok x) P Q R both p q = both x p q
+ok_both (Err e) P Q R both p q = tt
 
 -- what was done leaves this
 abbrev pub leaving : Marked → Result Done Refusal → Result Done Refusal
@@ -71,11 +78,12 @@ by_refusal : (refused : Option Refusal) (done : Done) (why : Refusal) → unless
 by_refusal None done why is = cc
 by_refusal (Some other) done why is = let same : other ≡ why = cc in ap (λ (r : Refusal). Option.Some r) same
 
-module _ (told : List ℕ) (session : SessionState) (whole : IsFile (file_of session)) (described : All IsDescribed session.hdus) (lie : AllLie told session.hdus) where
+module _ (tables : Bool) (told : List ℕ) (session : SessionState) (whole : IsFile (file_of session)) (described : All IsDescribed session.hdus) (lie : AllLie told session.hdus) where
   -- the file, and the file over which it stands
   abbrev it : Marked
   it = marked_of session
 
+  -- and the one over which it stands
   abbrev over : Marked
   over = marked_of (session_at told session)
 
@@ -116,39 +124,49 @@ module _ (told : List ℕ) (session : SessionState) (whole : IsFile (file_of ses
 
   -- what it prints it prints over it
   query_done : (new : SessionState) (command : Command) (text : List ℕ) → IsReady command session.hdus → ((edit : SessionEdit) → command ≡ Edit edit → ⊥)
-      → outcome_of it command ≡ Ok (record { text = text; left = marked_of new }) → absences_of new.hdus ≡ absences_of session.hdus
-      → outcome_of over command ≡ Ok (record { text = text; left = marked_of (session_at told new) })
+      → outcome_of it command ≡ Ok (record { text = text; left = guarded tables (marked_of new) }) → absences_of new.hdus ≡ absences_of session.hdus
+      → outcome_of over command ≡ Ok (record { text = text; left = guarded tables (marked_of (session_at told new)) })
   query_done new command text ready query done away =
-      let here : Path (Result Done Refusal) (Ok (record { text = text; left = marked_of new })) (Ok (record { text = text; left = it })) = sym done ∙ query_here command query ∙ ap (leaving it) done in
-      let same : marked_of new ≡ it = ap (left_or it) here in
-      query_over command ready query ∙ ap (leaving over) done ∙ ap (λ (left : Marked). Ok (record { text = text; left = left })) (sym (any_same told session new same away))
+      let here : Path (Result Done Refusal) (Ok (record { text = text; left = guarded tables (marked_of new) })) (Ok (record { text = text; left = it })) = sym done ∙ query_here command query ∙ ap (leaving it) done in
+      let same : marked_of new ≡ marked_of session = ap (guarded false) (ap (left_or it) here) in
+      query_over command ready query ∙ ap (leaving over) done ∙ ap (λ (left : Marked). Ok (record { text = text; left = guarded tables left })) (sym (any_same told session new same away))
 
-  -- an edit is refused alike
+  -- an edit is refused alike, where tables are kept too
+  columns_over : (edit : SessionEdit) → marked_refusal (marked_of (session_at told session)) edit ≡ marked_refusal (marked_of session) edit → marked_refusal over edit ≡ marked_refusal it edit
+  unfolding marked_refusal
+  columns_over (Hdu h edit) same =
+      ap (λ keeps. column_refusal tables keeps (refusal_in (stamp_follows edit (is_kept over.kept h)) over.file h edit (hdu_of over.file h))) (keeps_alike over.file it.file (headers_told told session) (Hdu h edit))
+      ∙ ap (column_refusal tables (edit_keeps it.file (Hdu h edit))) same
+  columns_over (NewImage h kind axes) same = same
+  columns_over (RemoveHdu h) same = same
+
   edit_over : (edit : SessionEdit) → IsReady (Edit edit) session.hdus → marked_refusal over edit ≡ marked_refusal it edit
   unfolding IsReady
-  edit_over edit ready = any_refusal told edit session.hdus session.tail whole described ready lie
+  edit_over edit ready = columns_over edit (any_refusal told edit session.hdus session.tail whole described ready lie)
 
   -- and leaves the same
-  after_over : (new : SessionState) (edit : SessionEdit) → IsReady (Edit edit) session.hdus → marked_of new ≡ marked_after it edit → absences_of new.hdus ≡ absences_after edit (absences_of session.hdus) → marked_of (session_at told new) ≡ marked_after over edit
+  after_over : (new : SessionState) (edit : SessionEdit) → IsReady (Edit edit) session.hdus → guarded tables (marked_of new) ≡ marked_after it edit → absences_of new.hdus ≡ absences_after edit (absences_of session.hdus) → guarded tables (marked_of (session_at told new)) ≡ marked_after over edit
   unfolding IsReady
-  after_over new edit ready is away = any_after told edit session.hdus session.tail new whole described ready lie is away
+  after_over new edit ready is away =
+      let plain : marked_of new ≡ marked_after (marked_of session) edit = ap (guarded false) (is ∙ after_guarded tables (marked_of session) edit) ∙ sym (after_guarded false (marked_of session) edit) in
+      ap (guarded tables) (any_after told edit session.hdus session.tail new whole described ready lie plain away) ∙ sym (after_guarded tables (marked_of (session_at told session)) edit)
 
   -- so it comes to the same
-  edit_done : (new : SessionState) (edit : SessionEdit) (text : List ℕ) → IsReady (Edit edit) session.hdus → outcome_of it (Edit edit) ≡ Ok (record { text = text; left = marked_of new }) → absences_of new.hdus ≡ absences_after edit (absences_of session.hdus)
-      → outcome_of over (Edit edit) ≡ Ok (record { text = text; left = marked_of (session_at told new) })
+  edit_done : (new : SessionState) (edit : SessionEdit) (text : List ℕ) → IsReady (Edit edit) session.hdus → outcome_of it (Edit edit) ≡ Ok (record { text = text; left = guarded tables (marked_of new) }) → absences_of new.hdus ≡ absences_after edit (absences_of session.hdus)
+      → outcome_of over (Edit edit) ≡ Ok (record { text = text; left = guarded tables (marked_of (session_at told new)) })
   unfolding outcome_of
   edit_done new edit text ready done away =
-      let none : marked_refusal it edit ≡ None = not_refused (marked_refusal it edit) (record { text = []; left = marked_after it edit }) (record { text = text; left = marked_of new }) done in
-      let made : Path (Result Done Refusal) (Ok (record { text = []; left = marked_after it edit })) (Ok (record { text = text; left = marked_of new })) = sym (ap (λ refused. unless refused (record { text = []; left = marked_after it edit })) none) ∙ done in
+      let none : marked_refusal it edit ≡ None = not_refused (marked_refusal it edit) (record { text = []; left = marked_after it edit }) (record { text = text; left = guarded tables (marked_of new) }) done in
+      let made : Path (Result Done Refusal) (Ok (record { text = []; left = marked_after it edit })) (Ok (record { text = text; left = guarded tables (marked_of new) })) = sym (ap (λ refused. unless refused (record { text = []; left = marked_after it edit })) none) ∙ done in
       let said : [] ≡ text = ap text_or made in
-      let left : marked_of new ≡ marked_after it edit = sym (ap (left_or it) made) in
+      let left : guarded tables (marked_of new) ≡ marked_after it edit = sym (ap (left_or it) made) in
       ap (λ refused. unless refused (record { text = []; left = marked_after over edit })) (edit_over edit ready ∙ none)
       ∙ ap (λ (t : List ℕ). Ok (record { text = t; left = marked_after over edit })) said
       ∙ ap (λ (after : Marked). Ok (record { text = text; left = after })) (sym (after_over new edit ready left away))
 
   -- a command that is done comes to the same over the file
-  pub done_over : (new : SessionState) (command : Command) (text : List ℕ) → IsReady command session.hdus → outcome_of it command ≡ Ok (record { text = text; left = marked_of new }) → absences_of new.hdus ≡ absences_left command (absences_of session.hdus)
-      → outcome_of over command ≡ Ok (record { text = text; left = marked_of (session_at told new) })
+  pub done_over : (new : SessionState) (command : Command) (text : List ℕ) → IsReady command session.hdus → outcome_of it command ≡ Ok (record { text = text; left = guarded tables (marked_of new) }) → absences_of new.hdus ≡ absences_left command (absences_of session.hdus)
+      → outcome_of over command ≡ Ok (record { text = text; left = guarded tables (marked_of (session_at told new)) })
   done_over new (Edit edit) text ready done away = edit_done new edit text ready done away
   done_over new Nothing text ready done away = query_done new Nothing text ready (λ edit is. cc) done away
   done_over new Offsets text ready done away = query_done new Offsets text ready (λ edit is. cc) done away
@@ -181,7 +199,7 @@ module _ (told : List ℕ) (session : SessionState) (whole : IsFile (file_of ses
   needs_over Nothing ready needs = needs
   needs_over (Edit edit) ready needs =
       subst (λ (marks : List Bool). EditNeedsMemory (is_stamped_after marks edit) edit (marked_refusal over edit)) (sym (kept_at_told told session.hdus))
-      (subst (EditNeedsMemory (is_stamped_after it.kept edit) edit) (sym (any_refusal told edit session.hdus session.tail whole described ready lie)) needs)
+      (subst (EditNeedsMemory (is_stamped_after it.kept edit) edit) (sym (columns_over edit (any_refusal told edit session.hdus session.tail whole described ready lie))) needs)
   needs_over Offsets ready needs = needs
   needs_over (Get hdu name) ready needs = subst (λ (r : Result (Value × Option (List ℕ)) Refusal). IsOk r) (sym (value_alike over.file it.file (headers_told told session) hdu name)) needs
   needs_over (Positions hdu name) ready needs = subst (λ (r : Result (List ℕ) Refusal). IsOkAnd r (λ places. 0 < length places)) (sym (places_alike over.file it.file (headers_told told session) hdu name)) needs
@@ -197,16 +215,3 @@ module _ (told : List ℕ) (session : SessionState) (whole : IsFile (file_of ses
       CommandFails-by over command why
       (λ memory. needs_over command ready (subst (CommandFails it command) memory fails))
       (λ other. refused_over command why ready (fails_refused it command why fails other))
-
-  -- whether tables are kept goes by headers
-  pub tables_over : (tables : Bool) (command : Command) → keeps_tables tables over.file command ≡ keeps_tables tables it.file command
-  tables_over tables (Edit edit) = ap (λ keeps. not tables || keeps) (keeps_alike over.file it.file (headers_told told session) edit)
-  tables_over tables Nothing = refl
-  tables_over tables Offsets = refl
-  tables_over tables (Get hdu name) = refl
-  tables_over tables (Positions hdu name) = refl
-  tables_over tables Report = refl
-  tables_over tables (Statistics hdu) = refl
-  tables_over tables (Rectangle hdu lo hi) = refl
-  tables_over tables (Sums hdu) = refl
-  tables_over tables (Kept hdu) = refl

@@ -1,7 +1,7 @@
 //! What a command makes of a file, and what it prints.
-ghost use Rattle.std.specs.Prelude.{◌≡◌, ◌++◌, true, IfOk, IfErr, OnOk, OnErr, Ok};
-ghost use Rattle.fits_session.specs.Away.{LieStill};
-ghost use Rattle.fits_session.specs.Session.{absences_of, marked_of};
+ghost use Rattle.std.specs.Prelude.{◌≡◌, ◌++◌, ℕ, List, true, IfOk, IfErr, OnOk, OnErr, Ok};
+ghost use Rattle.fits_session.specs.Away.{AllLie, LieStill};
+ghost use Rattle.fits_session.specs.Session.{absences_of, marked_of, session_at};
 ghost use Rattle.fits_cli.specs.Answer.{offset_line, offset_lines};
 ghost use Rattle.fits_session.specs.Marked.{guarded};
 ghost use Rattle.fits_cli.specs.Answer.{absences_left, is_edit, keeps_tables, outcome_of, CommandFails, IsReady};
@@ -32,8 +32,17 @@ pub fn answer<H: Holder + Drop>(
     ensures absences { OnOk result (absences_of session.new.hdus
         ≡ absences_left command (absences_of session.old.hdus)) }
     ensures away { OnErr result (absences_of session.new.hdus ≡ absences_of session.old.hdus) }
+
+    // So it is over each file that the data units may lie in.
+    ensures over { (told : List ℕ) → AllLie told session.old.hdus → IfOk result (λ text.
+        outcome_of (guarded tables (marked_of (session_at told session.old))) command
+        ≡ Ok (record { text = text.items; left = guarded tables (marked_of (session_at told session.new)) })) }
+    ensures fails { (told : List ℕ) → AllLie told session.old.hdus → IfErr result
+        (CommandFails (guarded tables (marked_of (session_at told session.old))) command) }
 {
+    session.is_sound();
     test_columns(session, tables, &command)?;
+    session.is_sound();
     obey(alloc, session, command)
 }
 

@@ -64,13 +64,14 @@ card_alike file other same h place = answer_alike (λ (it : Header). ok_or (card
 pub count_alike : (file other : FileParts) → headers_of file ≡ headers_of other → (h : ℕ) → card_count_in file h ≡ card_count_in other h
 count_alike file other same h = answer_alike (λ (it : Header). Ok (length it.cards)) file other h same
 
--- a session has the same headers over each file that its data units may lie in
+-- HDUs have the same headers over a file
+headers_at : (told : List ℕ) (hdus : List HduState) → map header_of (hdus_of (map (hdu_at told) hdus)) ≡ map header_of (hdus_of hdus)
+headers_at told [] = refl
+headers_at told (hdu ∷ hdus) = ap (λ (headers : List Header). hdu.header.header ∷ headers) (headers_at told hdus)
+
+-- so has a session, over each file that its data units may lie in
 pub headers_told : (told : List ℕ) (session : SessionState) → headers_of (file_of (session_at told session)) ≡ headers_of (file_of session)
-headers_told told session = each session.hdus where
-  -- one by one
-  each : (hdus : List HduState) → map header_of (hdus_of (map (hdu_at told) hdus)) ≡ map header_of (hdus_of hdus)
-  each [] = refl
-  each (hdu ∷ hdus) = ap (λ (headers : List Header). hdu.header.header ∷ headers) (each hdus)
+headers_told told session = headers_at told session.hdus
 
 -- whether an edit of the cards of an HDU at an index keeps the columns of a table goes by its header
 keeps_at : (primary : Bool) (edit : CardEdit) (us vs : List HduParts) (i : ℕ) → map header_of us ≡ map header_of vs → hdu_keeps primary edit (slice_get us i) ≡ hdu_keeps primary edit (slice_get vs i)

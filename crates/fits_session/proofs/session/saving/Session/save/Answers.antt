@@ -2,6 +2,7 @@ use Rattle.std.proofs.Common.{[], refl, rules, subst}
 use Rattle.fits_stream.specs.Stream.{Prints, PrintsFront}
 use Rattle.fits_unit.specs.Again.{CopyFails}
 use Rattle.fits_passing.specs.File.{file_bytes, FileParts}
+use Rattle.fits_session.specs.Session.{file_of, session_at}
 use Rattle.fits_session.proofs.HadLemmas.{held_file}
 use Rattle.fits_session.proofs.session.saving.Session.save.Goals as goal
 
@@ -12,7 +13,7 @@ returns-in-Ok-clause-ok g c =
 
 pub returns-in-Err-clause-err : goal.returns-in-Err-clause-err
 returns-in-Err-clause-err g c =
-    let fails = subst (λ why. CopyFails (file_bytes _) (g.W.Sink.state c.args.sink.now) (g.W.Sink.state c.write.new.sink) why) (c.in-Err.ensures.written refl) (c.in-Err.ensures.err [] (λ away. absurd (cc))) in
+    let fails = subst (λ why. CopyFails (file_bytes (file_of (session_at [] c.args.self.now))) (g.W.Sink.state c.args.sink.now) (g.W.Sink.state c.write.new.sink) why) (c.in-Err.ensures.written refl) (c.in-Err.ensures.err [] (λ away. absurd (cc))) in
     subst (λ (f : FileParts). PrintsFront (file_bytes f) (g.W.Sink.state c.args.sink.now) (g.W.Sink.state c.write.new.sink)) (held_file [] c.args.self.now.hdus c.args.self.now.tail c.are_held.ensures) fails
 
 -- Said, so that a body that breaks it is refused at once.
