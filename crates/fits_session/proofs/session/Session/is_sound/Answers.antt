@@ -4,8 +4,6 @@ use Rattle.fits_hdu.specs.State.{IsDescribed}
 use Rattle.fits_passing.specs.File.{IsFile}
 use Rattle.fits_session.specs.Session.{file_of, IsHeld, SessionState}
 use Rattle.fits_session.proofs.HadLemmas.{held_all}
-use Rattle.fits_session.proofs.HeaderLemmas.{keeps_alike}
-use Rattle.fits_session.proofs.ToldLemmas.{offsets_told}
 use Rattle.fits_session.proofs.session.Session.is_sound.Goals as goal
 
 pub returns-clause-whole : goal.returns-clause-whole
