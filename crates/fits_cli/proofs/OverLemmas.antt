@@ -1,6 +1,18 @@
 -- What a command comes to over each file that the data units of a session may lie in.
-use Rattle.std.proofs.Common.{◌≡◌, ℕ, ◌<◌, Bool, true, false, All, List, [], length, Option, None, Some, Result, Ok, Err, ap, refl, sym, subst, ◌∙◌}
-use Rattle.std.specs.Prelude.{IfOk, IsOk, IsOkAnd, OnOk, ℤ}
+use Rattle.std.proofs.Common.{◌≡◌, ℕ, ◌<◌, zero, suc, Bool, true, false, All, List, [], ◌∷◌, length, map, Option, None, Some, Result, Ok, Err, ap, refl, sym, subst, ◌∙◌}
+use Rattle.std.specs.Prelude.{ok_or, IfOk, IsOk, IsOkAnd, IsSome, OnOk, ℤ, if◌then◌else◌}
+use Rattle.std.specs.List.{slice_get}
+use Rattle.fits_card.specs.Header.{Header}
+use Rattle.fits_rules.specs.Image.{array_bits}
+use Rattle.fits_rules.specs.Shape.{shape_of}
+use Rattle.fits_rules.specs.declared.array_shape.Shape.{Shape}
+use Rattle.fits_image.specs.Kind.{kind_in as hdu_kind}
+use Rattle.fits_image.specs.declared.kind.Kind.{Kind}
+use Rattle.fits_hdu.specs.declared.pixel_fault.PixelFault.TheVariants as pixel
+use Rattle.fits_edit.specs.declared.hdu_edit.HduEdit.TheVariants.{Cards, Keep, Pixels, Release, Reshape, Stamp}
+use Rattle.fits_making.specs.HduEdit.{shaped}
+use Rattle.fits_extended.specs.declared.unmet.Unmet.{Unmet}
+use Rattle.fits_extended.proofs.HeaderLemmas.{stands_alike}
 use Rattle.fits_edit.specs.declared.edit.Edit.{Edit as SessionEdit}
 use Rattle.fits_edit.specs.declared.edit.Edit.TheVariants.{Hdu, NewImage, RemoveHdu}
 use Rattle.fits_making.specs.Keeping.{stamp_follows}
@@ -8,28 +20,29 @@ use Rattle.fits_hdu.specs.State.{IsDescribed, IsSeen}
 use Rattle.fits_making.specs.declared.refusal.Refusal.{Refusal}
 use Rattle.fits_making.specs.declared.refusal.Refusal.TheVariants.{Memory}
 use Rattle.fits_passing.specs.Hdu.{HduParts}
-use Rattle.fits_passing.specs.File.{FileParts, IsFile}
+use Rattle.fits_passing.specs.File.{is_primary_hdu, FileParts, IsFile}
 use Rattle.fits_passing.specs.Report.{report_of}
 use Rattle.fits_passing.specs.Stats.{Stats}
 use Rattle.fits_value.specs.declared.value.Value.{Value}
 use Rattle.fits_passing.specs.declared.offsets.HduOffsets.{HduOffsets}
 use Rattle.fits_passing.specs.declared.verdicts.Verdicts.{Verdicts}
 use Rattle.fits_passing.specs.Sums.{data_sum, verdicts_of}
-use Rattle.fits_session.specs.Away.{AllLie}
+use Rattle.fits_session.specs.Away.{AllLie, EditWantsData}
 use Rattle.fits_session.specs.Edit.{hdu_of}
 use Rattle.fits_session.specs.Marked.{column_refusal, edit_keeps, guarded, is_kept, is_stamped_after, kept_in, marked_after, marked_refusal, Marked}
-use Rattle.fits_session.specs.Query.{datasum_in, in_hdu, positions_in, rect_in, stats_in, value_in, verdicts_in}
+use Rattle.fits_session.specs.Query.{array_in, datasum_in, in_hdu, kind_in, positions_in, rect_in, stats_in, value_in, verdicts_in}
 use Rattle.fits_session.specs.Refusal.{refusal_in, EditNeedsMemory}
 use Rattle.fits_session.specs.Session.{absences_after, absences_of, file_of, kept_of, marked_of, session_at, SessionState}
 use Rattle.fits_session.proofs.AwayLemmas.{kept_at_told}
-use Rattle.fits_session.proofs.HeaderLemmas.{headers_told, keeps_alike, places_alike, value_alike}
+use Rattle.fits_session.proofs.HeaderLemmas.{header_of, headers_of, headers_told, keeps_alike, places_alike, value_alike}
 use Rattle.fits_session.proofs.ToldLemmas.{any_after, any_refusal, any_same, kept_told, offsets_told, rect_told, seen_told_all, seen_told_hdu, stats_told}
 use Rattle.fits_script.specs.declared.command.Command.{Command}
 use Rattle.fits_script.specs.declared.command.Command.TheVariants.{Nothing, Edit, Offsets, Get, Positions, Report, Statistics, Rectangle, Sums, Kept}
 use Rattle.fits_tell.specs.PixelLines.{statistics_line, sums_line, values_line}
 use Rattle.fits_tell.specs.Report.{report_text}
 use Rattle.fits_tell.specs.declared.level.Level.TheVariants as level
-use Rattle.fits_cli.specs.Answer.{absences_left, asked, kept_line, offset_lines, outcome_of, places_line, some_places, sums_asked, unless, CommandFails, Done, IsReady, OutcomeNeedsMemory}
+use Rattle.fits_cli.specs.Answer.{absences_left, asked, kept_line, offset_lines, line_stands, outcome_of, places_line, some_places, sums_asked, unless, CommandFails, CommandWantsData, Done, IsReady, OutcomeNeedsMemory}
+use Rattle.fits_cli.specs.Running.{guarded_by, standing_at, standing_over, Progress}
 use Rattle.fits_cli.specs.ValueLine.{value_line}
 use Rattle.fits_cli.proofs.GuardLemmas.{after_guarded, fails_refused}
 use Rattle.fits_cli.proofs.RefusalLemmas.{CommandFails-by}
@@ -215,3 +228,68 @@ module _ (tables : Bool) (told : List ℕ) (session : SessionState) (whole : IsF
       CommandFails-by over command why
       (λ memory. needs_over command ready (subst (CommandFails it command) memory fails))
       (λ other. refused_over command why ready (fails_refused it command why fails other))
+
+-- ---- what goes by headers
+
+-- what is asked of the header of an HDU at an index has the same answer where headers are the same
+asked_at : {X : Type 0} (answer : Header → Result X Refusal) (us vs : List HduParts) (i : ℕ) → map header_of us ≡ map header_of vs
+    → in_hdu (λ (hdu : HduParts). answer hdu.header) (slice_get us i) ≡ in_hdu (λ (hdu : HduParts). answer hdu.header) (slice_get vs i)
+asked_at answer [] [] i same = refl
+asked_at answer [] (v ∷ vs) i same = absurd (cc)
+asked_at answer (u ∷ us) [] i same = absurd (cc)
+asked_at answer (u ∷ us) (v ∷ vs) zero same = let own : u.header ≡ v.header = cc in ap answer own
+asked_at answer (u ∷ us) (v ∷ vs) (suc i) same = let rest : map header_of us ≡ map header_of vs = cc in asked_at answer us vs i rest
+
+asked_of : {X : Type 0} (answer : Header → Result X Refusal) (file other : FileParts) (h : ℕ) → headers_of file ≡ headers_of other
+    → in_hdu (λ (hdu : HduParts). answer hdu.header) (hdu_of file h) ≡ in_hdu (λ (hdu : HduParts). answer hdu.header) (hdu_of other h)
+asked_of answer file other zero same = refl
+asked_of answer file other (suc h) same = asked_at answer file.hdus other.hdus h same
+
+-- the kind of an image
+kind_over : (file other : FileParts) → headers_of file ≡ headers_of other → (h : ℕ) → kind_in file h ≡ kind_in other h
+kind_over file other same h = asked_of (λ (it : Header). shaped (shape_of (is_primary_hdu h) it.cards) (λ (shape : Shape). ok_or (hdu_kind shape it.cards) pixel.NotImage)) file other h same
+
+-- the bits of an array
+array_over : (file other : FileParts) → headers_of file ≡ headers_of other → (h : ℕ) → array_in file h ≡ array_in other h
+array_over file other same h = asked_of (λ (it : Header). shaped (shape_of (is_primary_hdu h) it.cards) (λ (shape : Shape). ok_or (array_bits shape) pixel.NotImage)) file other h same
+
+-- whether an HDU is there
+some_at : (us vs : List HduParts) (i : ℕ) → map header_of us ≡ map header_of vs → IsSome (slice_get us i) → IsSome (slice_get vs i)
+some_at [] [] i same some = some
+some_at [] (v ∷ vs) i same some = absurd (cc)
+some_at (u ∷ us) [] i same some = absurd (cc)
+some_at (u ∷ us) (v ∷ vs) zero same some = refl
+some_at (u ∷ us) (v ∷ vs) (suc i) same some = let rest : map header_of us ≡ map header_of vs = cc in some_at us vs i rest some
+
+some_over : (file other : FileParts) → headers_of file ≡ headers_of other → (h : ℕ) → IsSome (hdu_of file h) → IsSome (hdu_of other h)
+some_over file other same zero some = some
+some_over file other same (suc h) some = some_at file.hdus other.hdus h same some
+
+-- so data are wanted of it
+edit_wants_over : (file other : FileParts) → headers_of file ≡ headers_of other → (edit : SessionEdit) → EditWantsData file edit → EditWantsData other edit
+edit_wants_over file other same (Hdu h (Cards edit)) wants = wants
+edit_wants_over file other same (Hdu h (Pixels lo hi paint)) wants = subst (λ (r : Result Kind Refusal). IsOk r) (kind_over file other same h) wants
+edit_wants_over file other same (Hdu h (Reshape kind axes)) wants = subst (λ (r : Result ℕ Refusal). IsOk r) (array_over file other same h) wants
+edit_wants_over file other same (Hdu h Stamp) wants = some_over file other same h wants
+edit_wants_over file other same (Hdu h Keep) wants = some_over file other same h wants
+edit_wants_over file other same (Hdu h Release) wants = wants
+edit_wants_over file other same (NewImage h kind axes) wants = wants
+edit_wants_over file other same (RemoveHdu h) wants = wants
+
+pub wants_over : (file other : FileParts) → headers_of file ≡ headers_of other → (command : Command) → CommandWantsData file command → CommandWantsData other command
+unfolding CommandWantsData
+wants_over file other same Nothing wants = wants
+wants_over file other same (Edit edit) wants = edit_wants_over file other same edit wants
+wants_over file other same Offsets wants = wants
+wants_over file other same (Get hdu name) wants = wants
+wants_over file other same (Positions hdu name) wants = wants
+wants_over file other same Report wants = wants
+wants_over file other same (Statistics hdu) wants = subst (λ (r : Result Kind Refusal). IsOk r) (kind_over file other same hdu) wants
+wants_over file other same (Rectangle hdu lo hi) wants = subst (λ (r : Result Kind Refusal). IsOk r) (kind_over file other same hdu) wants
+wants_over file other same (Sums hdu) wants = some_over file other same hdu wants
+wants_over file other same (Kept hdu) wants = wants
+
+-- and a line stands for the same plain ones
+pub stands_over : (told : List ℕ) (it : Progress) (line : List ℕ) → line_stands (standing_at told it) line ≡ line_stands (standing_over it (guarded_by it it.session)) line
+stands_over told it line =
+    ap (λ (r : Result (List (List ℕ)) Unmet). if it.extended then r else Ok (line ∷ [])) (stands_alike it.whole (file_of (session_at told it.session)) (file_of it.session) line (headers_told told it.session))

@@ -1,6 +1,6 @@
 -- What the reads of a file leave of it while a script is answered.
 use Rattle.std.proofs.Common.{◌≡◌, ℕ, zero, suc, add-one, List, [], ◌∷◌, All, Some, ap, length, true, false, refl, sym, subst, ◌∙◌, inl, inr}
-use Rattle.std.specs.Prelude.{Bool, ◌&&◌, not}
+use Rattle.std.specs.Prelude.{Bool, ◌&&◌, not, Result, Ok, Err, OnOk}
 use Rattle.std.specs.List.{slice_get}
 use Rattle.fits_stream.specs.Agree.{IsOf}
 use Rattle.fits_stream.specs.Stored.{ReadLogState}
@@ -31,6 +31,11 @@ use Rattle.fits_cli.specs.Output.{saved_bytes}
 use Rattle.fits_cli.specs.Running.{guarded_by, standing_over, AreLike, IsLike, IsLikeHdu, IsToldBy, Progress, RepliesLike}
 use Rattle.fits_tell.specs.declared.fault.Fault.{Fault}
 use Rattle.fits_cli.specs.declared.terms.Terms.{Terms}
+
+-- what is so anyhow is so of a result that is there
+pub ok_anyhow : {X E P : Type 0} (result : Result X E) → P → OnOk result P
+ok_anyhow (Ok x) p = p
+ok_anyhow (Err e) p = tt
 
 -- bytes that may have given the reads may have given the earlier ones
 pub told_before : (whole : Bool) (told : List ℕ) (old new : ReadLogState) → Follows old new → IsToldBy whole told new → IsToldBy whole told old
