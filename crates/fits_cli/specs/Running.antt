@@ -81,7 +81,7 @@ standing_over it had = record {
   refused = it.refused;
   edited = it.edited;
   whole = it.whole;
-  extended = it.extended
+  extended = it.extended;
 }
 
 -- a file with marks, whose tables are kept as those of this one

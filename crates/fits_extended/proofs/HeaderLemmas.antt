@@ -179,7 +179,7 @@ module _ (file other : FileParts) (count : length file.hdus ≡ length other.hdu
   same_standing : (whole : Bool) (line : List ℕ) → standing_in whole file line ≡ standing_in whole other line
   same_standing whole line =
       let each : for_each file (first_word line) (after_next (after_word line)) (length file.hdus) 1 ≡ for_each other (first_word line) (after_next (after_word line)) (length other.hdus) 1 =
-          same_each (first_word line) (after_next (after_word line)) (length file.hdus) 1 ∙ ap (λ (n : ℕ). for_each other (first_word line) (after_next (after_word line)) n 1) count in
+      same_each (first_word line) (after_next (after_word line)) (length file.hdus) 1 ∙ ap (λ (n : ℕ). for_each other (first_word line) (after_next (after_word line)) n 1) count in
       let one : said_in file (numbered file line) ≡ said_in other (numbered other line) = same_said (numbered file line) ∙ ap (said_in other) (same_numbered line) in
       ap (λ (r : Result (List (List ℕ)) Unmet). if whole && is_for_each line then r else said_in file (numbered file line)) each
       ∙ ap (λ (r : Result (List (List ℕ)) Unmet). if whole && is_for_each line then for_each other (first_word line) (after_next (after_word line)) (length other.hdus) 1 else r) one

@@ -82,7 +82,7 @@ pub parts_placed : (told : List ℕ) (start place : ℕ) (it : PassedHdu) (one :
 parts_placed told start place it one header unit opened is =
     let n : ℕ = length (away_plane it.unit).bytes in
     let lies : unit_at told one.plane.bytes one.absent ≡ take n (drop (unit_place start it) told) =
-        ap (unit_at told one.plane.bytes) opened.from.away ∙ ap (λ k. take k (drop opened.absence.place told)) (ap length unit) ∙ ap (λ k. take n (drop k told)) (opened.from.place_is ∙ is) in
+    ap (unit_at told one.plane.bytes) opened.from.away ∙ ap (λ k. take k (drop opened.absence.place told)) (ap length unit) ∙ ap (λ k. take n (drop k told)) (opened.from.place_is ∙ is) in
     ap (λ (h : Header). let u : HduParts = record { header = h; data_unit = unit_at told one.plane.bytes one.absent } in u) header ∙ ap (λ t. let u : HduParts = record { header = it.header.header; data_unit = t } in u) lies
 
 -- its data unit lies there
@@ -610,7 +610,7 @@ first_more mid new i first at next = elim at [
   | inl stays ↦ seen_more new.hdus i (subst (λ (it : SessionState). All IsSeen (take i it.hdus)) (sym stays) first) next
   | inr alone ↦
       let same : take i new.hdus ≡ take i mid.hdus =
-          ap (λ (it : SessionState). take i it.hdus) alone.is ∙ ap (λ k. take i (changed_of k (λ (one : HduState). alone.now) mid.hdus)) (add-one i) ∙ ap (take i) (sym (hdus_set mid.hdus i alone.now)) ∙ take_set mid.hdus i alone.now in
+      ap (λ (it : SessionState). take i it.hdus) alone.is ∙ ap (λ k. take i (changed_of k (λ (one : HduState). alone.now) mid.hdus)) (add-one i) ∙ ap (take i) (sym (hdus_set mid.hdus i alone.now)) ∙ take_set mid.hdus i alone.now in
       seen_more new.hdus i (subst (All IsSeen) (sym same) first) next
 ]
 

@@ -173,8 +173,8 @@ parts_same_at told (one ∷ new) (was ∷ old) parts same =
     let others : hdus_of new ≡ hdus_of old = cc in
     let rest : absences_of new ≡ absences_of old = cc in
     let first : parts_of (hdu_at told one) ≡ parts_of (hdu_at told was) =
-        ap (λ (u : HduParts). let v : HduParts = record { header = u.header; data_unit = unit_at told u.data_unit one.absent } in v) own
-        ∙ ap (λ (absent : Option Absence). let v : HduParts = record { header = was.header.header; data_unit = unit_at told was.plane.bytes absent } in v) here in
+    ap (λ (u : HduParts). let v : HduParts = record { header = u.header; data_unit = unit_at told u.data_unit one.absent } in v) own
+    ∙ ap (λ (absent : Option Absence). let v : HduParts = record { header = was.header.header; data_unit = unit_at told was.plane.bytes absent } in v) here in
     ap (λ (u : HduParts). u ∷ hdus_of (map (hdu_at told) new)) first ∙ ap (λ (us : List HduParts). parts_of (hdu_at told was) ∷ us) (parts_same_at told new old others rest)
 
 -- an HDU of a session has the shape that its cards describe

@@ -120,8 +120,8 @@ pub like_tail : (hdus : List HduState) (us : List HduParts) (tail : List ℕ) (a
 like_tail hdus us tail a b c words p q =
     let front : List ℕ = joined_hdus us in
     let both : PrintsAs (HaveTotal hdus (front ++ tail)) (length front + length tail) a c =
-        like_append (HaveTotal hdus front) (λ bytes. bytes ≡ tail) (HaveTotal hdus (front ++ tail)) (length front) (length tail) a b c
-        (λ xs ys m n P Q seen. totals_add xs ys (omega (arith, m, words)) ∙ ap (λ k. k + word_total ys) (P seen) ∙ ap (λ (t : List ℕ). word_total front + word_total t) Q ∙ sym (totals_add front tail words)) p (like_printed tail b c q) in
+    like_append (HaveTotal hdus front) (λ bytes. bytes ≡ tail) (HaveTotal hdus (front ++ tail)) (length front) (length tail) a b c
+    (λ xs ys m n P Q seen. totals_add xs ys (omega (arith, m, words)) ∙ ap (λ k. k + word_total ys) (P seen) ∙ ap (λ (t : List ℕ). word_total front + word_total t) Q ∙ sym (totals_add front tail words)) p (like_printed tail b c q) in
     subst (λ n. PrintsAs (HaveTotal hdus (front ++ tail)) n a c) (sym (length-append front tail)) both
 
 -- none of them yet

@@ -271,9 +271,9 @@ module _ (told : List ℕ) (hdus : List HduState) (tail : List ℕ) (edit : HduE
       let primary : Bool = is_primary_hdu (suc i) in
       let place : get_or (absences_of hdus) i None ≡ one.absent = get_or_from_slice_get (absences_of hdus) i one.absent None (slice_get-map (λ (it : HduState). it.absent) hdus i ∙ ap (option_map (λ (it : HduState). it.absent)) there) in
       let same : told_one told one.absent (stamped_if stamps (hdu_edited primary edit (parts_of one))) ≡ stamped_if stamps (hdu_edited primary edit (told_one told one.absent (parts_of one))) =
-          finished_told told primary stamps edit one.absent (parts_of one) (fine_there i one ready at) (had_there i one at).lies (seen_there i one at) in
+      finished_told told primary stamps edit one.absent (parts_of one) (fine_there i one ready at) (had_there i one at).lies (seen_there i one at) in
       let here : told_one told (get_or (absences_of hdus) i None) (stamped_if stamps (hdu_edited primary edit (parts_of one))) ≡ stamped_if stamps (hdu_edited primary edit (told_one told (get_or (absences_of hdus) i None) (parts_of one))) =
-          subst (λ (a : Option Absence). told_one told a (stamped_if stamps (hdu_edited primary edit (parts_of one))) ≡ stamped_if stamps (hdu_edited primary edit (told_one told a (parts_of one)))) (sym place) same in
+      subst (λ (a : Option Absence). told_one told a (stamped_if stamps (hdu_edited primary edit (parts_of one))) ≡ stamped_if stamps (hdu_edited primary edit (told_one told a (parts_of one)))) (sym place) same in
       subst (λ (u : HduParts). told_one told (get_or (absences_of hdus) i None) (stamped_if stamps (hdu_edited primary edit u)) ≡ stamped_if stamps (hdu_edited primary edit (told_one told (get_or (absences_of hdus) i None) u))) own here
 
   -- so does the list
@@ -301,10 +301,10 @@ module _ (told : List ℕ) (hdus : List HduState) (tail : List ℕ) (edit : HduE
       let same : filled (fill_of told one) (parts_of one) ≡ told_one told one.absent (parts_of one) = fill_told told one.header.header one.plane.bytes one.absent in
       let fill : get_or (fills_of told hdus) i None ≡ fill_of told one = get_or_from_slice_get (fills_of told hdus) i (fill_of told one) None (slice_get-map (fill_of told) hdus i ∙ ap (option_map (fill_of told)) there) in
       let fine : LooksAtNone primary edit (parts_of one) ⊎ (filled (fill_of told one) (parts_of one) ≡ parts_of one) =
-          elim (fine_filled told primary edit one.absent (parts_of one) (fine_there i one ready at)) [ inl none ↦ inl none | inr is_same ↦ inr (same ∙ is_same) ] in
+      elim (fine_filled told primary edit one.absent (parts_of one) (fine_there i one ready at)) [ inl none ↦ inl none | inr is_same ↦ inr (same ∙ is_same) ] in
       let long : length (filled (fill_of told one) (parts_of one)).data_unit ≡ length one.plane.bytes = ap (λ (u : HduParts). length u.data_unit) same ∙ told_long told one.absent (parts_of one) (had_there i one at).lies in
       let here : AreAlike (hdu_made primary edit (parts_of one)) (hdu_made primary edit (filled (get_or (fills_of told hdus) i None) (parts_of one))) =
-          subst (λ (f : Option (List ℕ)). AreAlike (hdu_made primary edit (parts_of one)) (hdu_made primary edit (filled f (parts_of one)))) (sym fill) (alike_filled primary edit (parts_of one) (fill_of told one) fine long) in
+      subst (λ (f : Option (List ℕ)). AreAlike (hdu_made primary edit (parts_of one)) (hdu_made primary edit (filled f (parts_of one)))) (sym fill) (alike_filled primary edit (parts_of one) (fill_of told one) fine long) in
       subst (λ (u : HduParts). AreAlike (hdu_made primary edit u) (hdu_made primary edit (filled (get_or (fills_of told hdus) i None) u))) own here
 
   -- at its index

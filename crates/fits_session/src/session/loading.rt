@@ -322,10 +322,7 @@ impl<H: Holder + Drop> Session<H> {
 }
 
 // Has the data unit of each HDU known, one after another.
-fn know_each<H: Holder + Drop>(
-    session: &mut Session<H>,
-    log: &mut ReadLog,
-) -> Result<(), LoadFault>
+fn know_each<H: Holder + Drop>(session: &mut Session<H>, log: &mut ReadLog) -> Result<(), LoadFault>
     ensures known { OnOk result (All IsSeen session.new.hdus) }
     ensures same { (told : List ℕ) → IsTold H.whole told log.new session.old.hdus
         → marked_of (session_at told session.new) ≡ marked_of (session_at told session.old) }

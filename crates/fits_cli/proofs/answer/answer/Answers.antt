@@ -35,8 +35,8 @@ returns-clause-over g c = λ told lie.
     let same : marked_of (session_at told mid) ≡ marked_of (session_at told c.args.session.now) = any_same told c.args.session.now mid c.test_columns.ensures.same c.test_columns.ensures.absences in
     let own : AllLie told mid.hdus = c.test_columns.ensures.stays.lie told lie in
     ok_both c.obey.result _ _ _ (λ text done away.
-        let free = free_done c.args.tables (marked_of mid) (marked_of c.obey.new.session) c.args.command text.items (rw (c.test_columns.ensures.same) c.in_ok-test_columns.ensures.ok) done in
-        rw (sym same) (done_over c.args.tables told mid c.is_sound-2.ensures.whole c.is_sound-2.ensures.described own c.obey.new.session c.args.command text.items (c.test_columns.ensures.ready c.requires) free away))
+    let free = free_done c.args.tables (marked_of mid) (marked_of c.obey.new.session) c.args.command text.items (rw (c.test_columns.ensures.same) c.in_ok-test_columns.ensures.ok) done in
+    rw (sym same) (done_over c.args.tables told mid c.is_sound-2.ensures.whole c.is_sound-2.ensures.described own c.obey.new.session c.args.command text.items (c.test_columns.ensures.ready c.requires) free away))
     c.obey.ensures.ok c.obey.ensures.absences
 
 pub returns-clause-fails : goal.returns-clause-fails
@@ -45,8 +45,8 @@ returns-clause-fails g c = λ told lie.
     let same : marked_of (session_at told mid) ≡ marked_of (session_at told c.args.session.now) = any_same told c.args.session.now mid c.test_columns.ensures.same c.test_columns.ensures.absences in
     let own : AllLie told mid.hdus = c.test_columns.ensures.stays.lie told lie in
     IfErr-weaker c.obey.result _ _ (λ why fails.
-        let free = free_fails c.args.tables (marked_of mid) c.args.command why (rw (c.test_columns.ensures.same) c.in_ok-test_columns.ensures.ok) fails in
-        subst (λ (it : Marked). CommandFails (guarded c.args.tables it) c.args.command why) same (fails_over c.args.tables told mid c.is_sound-2.ensures.whole c.is_sound-2.ensures.described own c.args.command why (c.test_columns.ensures.ready c.requires) free))
+    let free = free_fails c.args.tables (marked_of mid) c.args.command why (rw (c.test_columns.ensures.same) c.in_ok-test_columns.ensures.ok) fails in
+    subst (λ (it : Marked). CommandFails (guarded c.args.tables it) c.args.command why) same (fails_over c.args.tables told mid c.is_sound-2.ensures.whole c.is_sound-2.ensures.described own c.args.command why (c.test_columns.ensures.ready c.requires) free))
     c.obey.ensures.err
 
 -- or its columns would be others

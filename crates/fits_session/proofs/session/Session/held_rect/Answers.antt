@@ -38,10 +38,10 @@ returns-clause-asks g c =
 pub returns-clause-stays : goal.returns-clause-stays
 returns-clause-stays g c = record {
   lie = λ bytes lie.
-        let own : AllLie bytes c.self.inside.hdus.items = rw (← c.self.view_is) at lie in
-        (kept_read (in_file bytes) c.self.inside.hdus.items c.self.inside.tail.items c.args.h c.in_ok-i.i c.self.inside.len c.self.inside.names.numbers.items c.self.inside.names.room c.index_mut-hdu.result.now c.rect.new.self
-        (is_at c.self.inside.hdus.items c.deref.result.now c.args.h c.args.h c.in_ok-i.i c.index_mut-hdu.result.now c.deref.ensures.value refl c.in_ok-i.ensures.found c.index_mut-hdu.ensures.value)
-        (ap uncounted c.in_ok-values.ensures.work) (kept_in _ (in_file bytes) _ _ _ _ _ c.self.invariant own)).had;
+      let own : AllLie bytes c.self.inside.hdus.items = rw (← c.self.view_is) at lie in
+      (kept_read (in_file bytes) c.self.inside.hdus.items c.self.inside.tail.items c.args.h c.in_ok-i.i c.self.inside.len c.self.inside.names.numbers.items c.self.inside.names.room c.index_mut-hdu.result.now c.rect.new.self
+      (is_at c.self.inside.hdus.items c.deref.result.now c.args.h c.args.h c.in_ok-i.i c.index_mut-hdu.result.now c.deref.ensures.value refl c.in_ok-i.ensures.found c.index_mut-hdu.ensures.value)
+      (ap uncounted c.in_ok-values.ensures.work) (kept_in _ (in_file bytes) _ _ _ _ _ c.self.invariant own)).had;
   seen = λ all.
       let own : All IsSeen c.self.inside.hdus.items = rw (← c.self.view_is) at all in
       let at = (is_at c.self.inside.hdus.items c.deref.result.now c.args.h c.args.h c.in_ok-i.i c.index_mut-hdu.result.now c.deref.ensures.value refl c.in_ok-i.ensures.found c.index_mut-hdu.ensures.value) in
@@ -51,10 +51,10 @@ returns-clause-stays g c = record {
 pub returns-in_err-values-clause-stays : goal.returns-in_err-values-clause-stays
 returns-in_err-values-clause-stays g c = record {
   lie = λ bytes lie.
-        let own : AllLie bytes c.self.inside.hdus.items = rw (← c.self.view_is) at lie in
-        (kept_read (in_file bytes) c.self.inside.hdus.items c.self.inside.tail.items c.args.h c.in_ok-i.i c.self.inside.len c.self.inside.names.numbers.items c.self.inside.names.room c.index_mut-hdu.result.now c.rect.new.self
-        (is_at c.self.inside.hdus.items c.deref.result.now c.args.h c.args.h c.in_ok-i.i c.index_mut-hdu.result.now c.deref.ensures.value refl c.in_ok-i.ensures.found c.index_mut-hdu.ensures.value)
-        (ap uncounted c.in_err-values.ensures.same) (kept_in _ (in_file bytes) _ _ _ _ _ c.self.invariant own)).had;
+      let own : AllLie bytes c.self.inside.hdus.items = rw (← c.self.view_is) at lie in
+      (kept_read (in_file bytes) c.self.inside.hdus.items c.self.inside.tail.items c.args.h c.in_ok-i.i c.self.inside.len c.self.inside.names.numbers.items c.self.inside.names.room c.index_mut-hdu.result.now c.rect.new.self
+      (is_at c.self.inside.hdus.items c.deref.result.now c.args.h c.args.h c.in_ok-i.i c.index_mut-hdu.result.now c.deref.ensures.value refl c.in_ok-i.ensures.found c.index_mut-hdu.ensures.value)
+      (ap uncounted c.in_err-values.ensures.same) (kept_in _ (in_file bytes) _ _ _ _ _ c.self.invariant own)).had;
   seen = λ all.
       let own : All IsSeen c.self.inside.hdus.items = rw (← c.self.view_is) at all in
       let at = (is_at c.self.inside.hdus.items c.deref.result.now c.args.h c.args.h c.in_ok-i.i c.index_mut-hdu.result.now c.deref.ensures.value refl c.in_ok-i.ensures.found c.index_mut-hdu.ensures.value) in

@@ -26,9 +26,9 @@ returns-clause-marks g c =
 pub returns-clause-stays : goal.returns-clause-stays
 returns-clause-stays g c = record {
   lie = λ bytes lie.
-        let own : AllLie bytes c.self.inside.hdus.items = rw (← c.self.view_is) at lie in
-        let seen : All IsSeen c.self.inside.hdus.items = rw (← c.self.view_is) at c.requires in
-        (kept_marked (in_file bytes) c.self.inside.hdus.items c.mark_all.new.hdus.items c.self.inside.tail.items c.self.inside.len c.self.inside.names.numbers.items c.self.inside.names.room c.mark_all.ensures seen (kept_in _ (in_file bytes) _ _ _ _ _ c.self.invariant own)).had;
+      let own : AllLie bytes c.self.inside.hdus.items = rw (← c.self.view_is) at lie in
+      let seen : All IsSeen c.self.inside.hdus.items = rw (← c.self.view_is) at c.requires in
+      (kept_marked (in_file bytes) c.self.inside.hdus.items c.mark_all.new.hdus.items c.self.inside.tail.items c.self.inside.len c.self.inside.names.numbers.items c.self.inside.names.room c.mark_all.ensures seen (kept_in _ (in_file bytes) _ _ _ _ _ c.self.invariant own)).had;
   seen = λ all.
       let own : All IsSeen c.self.inside.hdus.items = rw (← c.self.view_is) at all in
       rw c.mark_all.ensures (seen_marked c.self.inside.hdus.items own);

@@ -129,8 +129,8 @@ returns-clause-edits g c =
 pub returns-clause-stays : goal.returns-clause-stays
 returns-clause-stays g c = record {
   lie = λ bytes lie.
-        let own : AllLie bytes c.self.inside.hdus.items = rw (← c.self.view_is) at lie in
-        rw (c.in-Ok.ensures.items, c.reserve.ensures.items) (all_inserted (IsHad (in_file bytes)) c.self.inside.hdus.items (c.args.at - 1) c.in_ok-hdu.hdu (had_held (in_file bytes) c.in_ok-hdu.hdu c.in_ok-hdu.ensures.held) own);
+      let own : AllLie bytes c.self.inside.hdus.items = rw (← c.self.view_is) at lie in
+      rw (c.in-Ok.ensures.items, c.reserve.ensures.items) (all_inserted (IsHad (in_file bytes)) c.self.inside.hdus.items (c.args.at - 1) c.in_ok-hdu.hdu (had_held (in_file bytes) c.in_ok-hdu.hdu c.in_ok-hdu.ensures.held) own);
   seen = λ all.
       let own : All IsSeen c.self.inside.hdus.items = rw (← c.self.view_is) at all in
       rw (c.in-Ok.ensures.items, c.reserve.ensures.items) (all_inserted (λ (one : HduState). IsSeen one) c.self.inside.hdus.items (c.args.at - 1) c.in_ok-hdu.hdu (seen_held c.in_ok-hdu.hdu c.in_ok-hdu.ensures.held) own);

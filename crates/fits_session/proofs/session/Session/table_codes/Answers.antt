@@ -48,10 +48,10 @@ returns-clause-same g c = rw (← c.self.view_is) (marked_of-same c.self.inside.
 pub returns-in_err-codes-clause-stays : goal.returns-in_err-codes-clause-stays
 returns-in_err-codes-clause-stays g c = record {
   lie = λ bytes lie.
-        let own : AllLie bytes c.self.inside.hdus.items = rw (← c.self.view_is) at lie in
-        (kept_read (in_file bytes) c.self.inside.hdus.items c.self.inside.tail.items c.args.h c.in_ok-i.i c.self.inside.len c.self.inside.names.numbers.items c.self.inside.names.room c.index_mut-hdu.result.now c.table_codes.new.self
-        (is_at c.self.inside.hdus.items c.deref.result.now c.args.h c.args.h c.in_ok-i.i c.index_mut-hdu.result.now c.deref.ensures.value refl c.in_ok-i.ensures.found c.index_mut-hdu.ensures.value)
-        (uncounted_read _ _ _ c.table_codes.ensures.work) (kept_in _ (in_file bytes) _ _ _ _ _ c.self.invariant own)).had;
+      let own : AllLie bytes c.self.inside.hdus.items = rw (← c.self.view_is) at lie in
+      (kept_read (in_file bytes) c.self.inside.hdus.items c.self.inside.tail.items c.args.h c.in_ok-i.i c.self.inside.len c.self.inside.names.numbers.items c.self.inside.names.room c.index_mut-hdu.result.now c.table_codes.new.self
+      (is_at c.self.inside.hdus.items c.deref.result.now c.args.h c.args.h c.in_ok-i.i c.index_mut-hdu.result.now c.deref.ensures.value refl c.in_ok-i.ensures.found c.index_mut-hdu.ensures.value)
+      (uncounted_read _ _ _ c.table_codes.ensures.work) (kept_in _ (in_file bytes) _ _ _ _ _ c.self.invariant own)).had;
   seen = λ all.
       let own : All IsSeen c.self.inside.hdus.items = rw (← c.self.view_is) at all in
       let at = (is_at c.self.inside.hdus.items c.deref.result.now c.args.h c.args.h c.in_ok-i.i c.index_mut-hdu.result.now c.deref.ensures.value refl c.in_ok-i.ensures.found c.index_mut-hdu.ensures.value) in
@@ -61,10 +61,10 @@ returns-in_err-codes-clause-stays g c = record {
 pub returns-clause-stays : goal.returns-clause-stays
 returns-clause-stays g c = record {
   lie = λ bytes lie.
-        let own : AllLie bytes c.self.inside.hdus.items = rw (← c.self.view_is) at lie in
-        (kept_read (in_file bytes) c.self.inside.hdus.items c.self.inside.tail.items c.args.h c.in_ok-i.i c.self.inside.len c.self.inside.names.numbers.items c.self.inside.names.room c.index_mut-hdu.result.now c.table_codes.new.self
-        (is_at c.self.inside.hdus.items c.deref.result.now c.args.h c.args.h c.in_ok-i.i c.index_mut-hdu.result.now c.deref.ensures.value refl c.in_ok-i.ensures.found c.index_mut-hdu.ensures.value)
-        (uncounted_read _ _ _ c.table_codes.ensures.work) (kept_in _ (in_file bytes) _ _ _ _ _ c.self.invariant own)).had;
+      let own : AllLie bytes c.self.inside.hdus.items = rw (← c.self.view_is) at lie in
+      (kept_read (in_file bytes) c.self.inside.hdus.items c.self.inside.tail.items c.args.h c.in_ok-i.i c.self.inside.len c.self.inside.names.numbers.items c.self.inside.names.room c.index_mut-hdu.result.now c.table_codes.new.self
+      (is_at c.self.inside.hdus.items c.deref.result.now c.args.h c.args.h c.in_ok-i.i c.index_mut-hdu.result.now c.deref.ensures.value refl c.in_ok-i.ensures.found c.index_mut-hdu.ensures.value)
+      (uncounted_read _ _ _ c.table_codes.ensures.work) (kept_in _ (in_file bytes) _ _ _ _ _ c.self.invariant own)).had;
   seen = λ all.
       let own : All IsSeen c.self.inside.hdus.items = rw (← c.self.view_is) at all in
       let at = (is_at c.self.inside.hdus.items c.deref.result.now c.args.h c.args.h c.in_ok-i.i c.index_mut-hdu.result.now c.deref.ensures.value refl c.in_ok-i.ensures.found c.index_mut-hdu.ensures.value) in

@@ -86,10 +86,10 @@ returns-clause-edits g c =
 pub returns-clause-stays : goal.returns-clause-stays
 returns-clause-stays g c = record {
   lie = λ bytes lie.
-        let hdus = c.self.inside.hdus.items in
-        let own : AllLie bytes hdus = rw (← c.self.view_is) at lie in
-        let moved = c.leave.ensures.hdus ∙ ap without_entries c.remove-hdu.ensures.items in
-        had_moved (in_file bytes) c.leave.new.hdus.items (remove hdus c.in_ok-i.i) moved (all_left (IsHad (in_file bytes)) hdus c.in_ok-i.i own);
+      let hdus = c.self.inside.hdus.items in
+      let own : AllLie bytes hdus = rw (← c.self.view_is) at lie in
+      let moved = c.leave.ensures.hdus ∙ ap without_entries c.remove-hdu.ensures.items in
+      had_moved (in_file bytes) c.leave.new.hdus.items (remove hdus c.in_ok-i.i) moved (all_left (IsHad (in_file bytes)) hdus c.in_ok-i.i own);
   seen = λ all.
       let own : All IsSeen c.self.inside.hdus.items = rw (← c.self.view_is) at all in
       let moved = c.leave.ensures.hdus ∙ ap without_entries c.remove-hdu.ensures.items in

@@ -61,8 +61,8 @@ returns-clause-ok g c = λ told all.
 pub returns-in_err-write_hdus-clause-stays : goal.returns-in_err-write_hdus-clause-stays
 returns-in_err-write_hdus-clause-stays g c = record {
   lie = λ bytes lie.
-        let own : AllLie bytes c.self.inside.hdus.items = rw (← c.self.view_is) at lie in
-        (kept_counted (in_file bytes) c.self.inside.hdus.items c.write_hdus.new.hdus.items c.self.inside.tail.items c.self.inside.len c.self.inside.names.numbers.items c.self.inside.names.room c.write_hdus.ensures.work.hdus (kept_in _ (in_file bytes) _ _ _ _ _ c.self.invariant own)).had;
+      let own : AllLie bytes c.self.inside.hdus.items = rw (← c.self.view_is) at lie in
+      (kept_counted (in_file bytes) c.self.inside.hdus.items c.write_hdus.new.hdus.items c.self.inside.tail.items c.self.inside.len c.self.inside.names.numbers.items c.self.inside.names.room c.write_hdus.ensures.work.hdus (kept_in _ (in_file bytes) _ _ _ _ _ c.self.invariant own)).had;
   seen = λ all.
       let own : All IsSeen c.self.inside.hdus.items = rw (← c.self.view_is) at all in
       seen_same c.write_hdus.new.hdus.items c.self.inside.hdus.items (absences_counted c.self.inside.hdus.items c.write_hdus.new.hdus.items c.write_hdus.ensures.work.hdus) own;
@@ -71,8 +71,8 @@ returns-in_err-write_hdus-clause-stays g c = record {
 pub returns-clause-stays : goal.returns-clause-stays
 returns-clause-stays g c = record {
   lie = λ bytes lie.
-        let own : AllLie bytes c.self.inside.hdus.items = rw (← c.self.view_is) at lie in
-        (kept_counted (in_file bytes) c.self.inside.hdus.items c.write_hdus.new.hdus.items c.self.inside.tail.items c.self.inside.len c.self.inside.names.numbers.items c.self.inside.names.room c.write_hdus.ensures.work.hdus (kept_in _ (in_file bytes) _ _ _ _ _ c.self.invariant own)).had;
+      let own : AllLie bytes c.self.inside.hdus.items = rw (← c.self.view_is) at lie in
+      (kept_counted (in_file bytes) c.self.inside.hdus.items c.write_hdus.new.hdus.items c.self.inside.tail.items c.self.inside.len c.self.inside.names.numbers.items c.self.inside.names.room c.write_hdus.ensures.work.hdus (kept_in _ (in_file bytes) _ _ _ _ _ c.self.invariant own)).had;
   seen = λ all.
       let own : All IsSeen c.self.inside.hdus.items = rw (← c.self.view_is) at all in
       seen_same c.write_hdus.new.hdus.items c.self.inside.hdus.items (absences_counted c.self.inside.hdus.items c.write_hdus.new.hdus.items c.write_hdus.ensures.work.hdus) own;
@@ -81,8 +81,8 @@ returns-clause-stays g c = record {
 pub returns-in_default-clause-stays : goal.returns-in_default-clause-stays
 returns-in_default-clause-stays g c = record {
   lie = λ bytes lie.
-        let own : AllLie bytes c.self.inside.hdus.items = rw (← c.self.view_is) at lie in
-        (kept_counted (in_file bytes) c.self.inside.hdus.items c.write_hdus.new.hdus.items c.self.inside.tail.items c.self.inside.len c.self.inside.names.numbers.items c.self.inside.names.room c.write_hdus.ensures.work.hdus (kept_in _ (in_file bytes) _ _ _ _ _ c.self.invariant own)).had;
+      let own : AllLie bytes c.self.inside.hdus.items = rw (← c.self.view_is) at lie in
+      (kept_counted (in_file bytes) c.self.inside.hdus.items c.write_hdus.new.hdus.items c.self.inside.tail.items c.self.inside.len c.self.inside.names.numbers.items c.self.inside.names.room c.write_hdus.ensures.work.hdus (kept_in _ (in_file bytes) _ _ _ _ _ c.self.invariant own)).had;
   seen = λ all.
       let own : All IsSeen c.self.inside.hdus.items = rw (← c.self.view_is) at all in
       seen_same c.write_hdus.new.hdus.items c.self.inside.hdus.items (absences_counted c.self.inside.hdus.items c.write_hdus.new.hdus.items c.write_hdus.ensures.work.hdus) own;
@@ -107,7 +107,6 @@ returns-clause-absences g c = rw (← c.self.view_is) (absences_counted c.self.i
 
 pub returns-in_default-clause-absences : goal.returns-in_default-clause-absences
 returns-in_default-clause-absences g c = rw (← c.self.view_is) (absences_counted c.self.inside.hdus.items c.write_hdus.new.hdus.items c.write_hdus.ensures.work.hdus)
-
 
 -- they are as many, and where all are known have the same total
 pub returns-clause-like : goal.returns-clause-like

@@ -26,13 +26,13 @@ loop-i-init g c = record {
 pub loop-i-preserved : goal.loop-i-preserved
 loop-i-preserved g c = record {
   told = λ told all.
-    let before = told_before _ told _ _ _ c.know.ensures.follows all in
-    let now : IsTold g.H.Holder.whole told c.know.new.log c.loop-i.session.hdus = λ away. let own = all away in let was = c.loop-i.invariant.told told before away in (own.0, was.1) in
-    c.know.ensures.told told now;
+      let before = told_before _ told _ _ _ c.know.ensures.follows all in
+      let now : IsTold g.H.Holder.whole told c.know.new.log c.loop-i.session.hdus = λ away. let own = all away in let was = c.loop-i.invariant.told told before away in (own.0, was.1) in
+      c.know.ensures.told told now;
   same = λ told all.
-    let before = told_before _ told _ _ _ c.know.ensures.follows all in
-    let now : IsTold g.H.Holder.whole told c.know.new.log c.loop-i.session.hdus = λ away. let own = all away in let was = c.loop-i.invariant.told told before away in (own.0, was.1) in
-    c.in_ok-know.ensures.same told now ∙ c.loop-i.invariant.same told before;
+      let before = told_before _ told _ _ _ c.know.ensures.follows all in
+      let now : IsTold g.H.Holder.whole told c.know.new.log c.loop-i.session.hdus = λ away. let own = all away in let was = c.loop-i.invariant.told told before away in (own.0, was.1) in
+      c.in_ok-know.ensures.same told now ∙ c.loop-i.invariant.same told before;
   each = all_more c.args.session.now c.loop-i.session c.know.new.self c.loop-i.i c.loop-i.invariant.each c.loop-i.invariant.rest c.know.ensures.alone;
   rest = rest_more c.args.session.now.hdus c.loop-i.session c.know.new.self c.loop-i.i c.loop-i.invariant.rest c.know.ensures.alone;
   known = first_more c.loop-i.session c.know.new.self c.loop-i.i c.loop-i.invariant.known c.know.ensures.alone c.in_ok-know.ensures.known;
