@@ -233,15 +233,6 @@ lent_stops a b old new (Open TooLarge) came ends was is p = (λ told of. p.0 tol
 lent_stops a b old new (Open Memory) came ends was is p = is ∙ p ∙ was
 lent_stops a b old new Failed came ends was is p = is ∙ p ∙ ap (λ n. n + 1) was
 
--- why it wasn't opened from some read on, it wasn't from the first
-pub stops_since : {F : Type 0} (start : ReadLogState) (a b : Lent F) (why : ReadFileFault) → a.failures ≡ start.failures → StoredStops (reads_by a) (reads_by b) why → StoredStops start (reads_by b) why
-stops_since start a b why was p = lent_stops a b start (reads_by b) why refl refl was refl p
-
--- the tail wasn't taken
-pub tail_stops_since : {F : Type 0} (x y : Option (List ℕ)) (start : ReadLogState) (a b : Lent F) (fault : ReadFault) (why : ReadFileFault) → TakingStops (state_by x a) (state_by y b) fault → why ≡ of_read fault → a.failures ≡ start.failures → StoredStops start (reads_by b) why
-tail_stops_since x y start a b read.Memory why p is was = subst (StoredStops start (reads_by b)) (sym is) (p.quiet ∙ was)
-tail_stops_since x y start a b read.Failed why p is was = subst (StoredStops start (reads_by b)) (sym is) (p.failed ∙ ap (λ n. n + 1) was)
-
 -- reads follow one another where it wasn't
 pub tail_follows : {F : Type 0} (x y : Option (List ℕ)) (a b : Lent F) (fault : ReadFault) → TakingStops (state_by x a) (state_by y b) fault → Follows (reads_by a) (reads_by b)
 tail_follows x y a b read.Memory p = grown_follows a b p.log

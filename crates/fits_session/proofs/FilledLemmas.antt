@@ -74,11 +74,6 @@ LooksAtNone primary Release hdu = Unit {0}
 
 -- ---- one HDU
 
--- a header stays
-filled_header : (fill : Option (List ℕ)) (hdu : HduParts) → (filled fill hdu).header ≡ hdu.header
-filled_header None hdu = refl
-filled_header (Some unit) hdu = refl
-
 -- a choice between what is made and a refusal
 chosen_filled : (unit : List ℕ) (b : Bool) (made : HduParts) (why : Refusal) → (if b then Ok (filled (Some unit) made) else Err why) ≡ made_filled (Some unit) (if b then Ok made else Err why)
 chosen_filled unit true made why = refl
@@ -138,18 +133,6 @@ filled_nowhere (fill ∷ fills) [] i none = none
 filled_nowhere (fill ∷ fills) (one ∷ hdus) zero none = cc
 filled_nowhere (fill ∷ fills) (one ∷ hdus) (suc i) none = filled_nowhere fills hdus i none
 
--- one of them is changed, and so is the one that it stands for
-pub changed_all : (fills : List (Option (List ℕ))) (hdus : List HduParts) (i : ℕ) (hdu : HduParts) (change after : HduParts → HduParts) → slice_get hdus i ≡ Some hdu → filled (get_or fills i None) (change hdu) ≡ after (filled (get_or fills i None) hdu)
-    → all_filled fills (changed_at i change hdus) ≡ changed_at i after (all_filled fills hdus)
-changed_all [] [] i hdu change after there same = cc
-changed_all [] (one ∷ hdus) zero hdu change after there same = let is : one ≡ hdu = cc in ap (λ (u : HduParts). change u ∷ hdus) is ∙ ap (λ (u : HduParts). u ∷ hdus) same ∙ ap (λ (u : HduParts). after u ∷ hdus) (sym is)
-changed_all [] (one ∷ hdus) (suc i) hdu change after there same = ap (λ (us : List HduParts). one ∷ us) (changed_all [] hdus i hdu change after there same)
-changed_all (fill ∷ fills) [] i hdu change after there same = cc
-changed_all (fill ∷ fills) (one ∷ hdus) zero hdu change after there same =
-    let is : one ≡ hdu = cc in
-    ap (λ (u : HduParts). filled fill (change u) ∷ all_filled fills hdus) is ∙ ap (λ (u : HduParts). u ∷ all_filled fills hdus) same ∙ ap (λ (u : HduParts). after (filled fill u) ∷ all_filled fills hdus) (sym is)
-changed_all (fill ∷ fills) (one ∷ hdus) (suc i) hdu change after there same = ap (λ (us : List HduParts). filled fill one ∷ us) (changed_all fills hdus i hdu change after there same)
-
 -- ---- an edit
 
 -- what an edit makes of an HDU, where it looks at none of its data
@@ -194,27 +177,11 @@ long_at told [] lie = tt
 long_at told (hdu ∷ hdus) lie =
     (long_one told (parts_of hdu) hdu.absent (All-head (IsHad (in_file told)) hdu hdus lie).lies, long_at told hdus (All-tail (IsHad (in_file told)) hdu hdus lie))
 
--- one that is known is what stands there
-same_one : (told bytes : List ℕ) (header : Header) (absent : Option Absence) → IsKnown absent → IfSome absent (Lies told bytes)
-    → filled (option_map (λ (it : Absence). take (length bytes) (drop it.place told)) absent) (record { header = header; data_unit = bytes }) ≡ record { header = header; data_unit = bytes }
-same_one told bytes header None known lies = refl
-same_one told bytes header (Some it) known lies = ap (λ t. let u : HduParts = record { header = header; data_unit = t } in u) (lies.same known)
-
-pub known_filled : (told : List ℕ) (one : HduState) → IsSeen one → LiesIn told one.plane one.absent → filled (fill_of told one) (parts_of one) ≡ parts_of one
-known_filled told one seen lies = same_one told one.plane.bytes one.header.header one.absent seen lies
-
 -- ---- the tests and the file after an edit of one HDU
 
 -- how long a file is of which some data units stand for others
 pub long_filled : (fills : List (Option (List ℕ))) (hdus : List HduParts) (tail : List ℕ) → AreAsLong fills hdus → length (file_bytes (record { hdus = all_filled fills hdus; tail = tail })) ≡ length (file_bytes (record { hdus = hdus; tail = tail }))
 long_filled fills hdus tail long = omega (arith, length-append (joined_hdus (all_filled fills hdus)) tail, length-append (joined_hdus hdus) tail, joined_filled fills hdus long)
-
--- they are as long with one of them changed
-pub long_changed : (fills : List (Option (List ℕ))) (hdus : List HduParts) (i : ℕ) (change : HduParts → HduParts) → AreAsLong fills hdus → ((hdu : HduParts) → slice_get hdus i ≡ Some hdu → length (filled (get_or fills i None) (change hdu)).data_unit ≡ length (change hdu).data_unit) → AreAsLong fills (changed_at i change hdus)
-long_changed [] hdus i change p here = tt
-long_changed (fill ∷ fills) [] i change p here = tt
-long_changed (fill ∷ fills) (hdu ∷ hdus) zero change p here = (here hdu refl, p.1)
-long_changed (fill ∷ fills) (hdu ∷ hdus) (suc i) change p here = (p.0, long_changed fills hdus i change p.1 here)
 
 -- ---- when an edit is refused
 
@@ -334,22 +301,3 @@ pub refusal_filled : (fills : List (Option (List ℕ))) (hdus : List HduParts) (
     → refusal_in stamps (record { hdus = all_filled fills hdus; tail = tail }) h edit (hdu_of (record { hdus = all_filled fills hdus; tail = tail }) h) ≡ refusal_in stamps (record { hdus = hdus; tail = tail }) h edit (hdu_of (record { hdus = hdus; tail = tail }) h)
 refusal_filled fills hdus tail zero stamps edit p like = refl
 refusal_filled fills hdus tail (suc i) stamps edit p like = refusal_found fills hdus tail i stamps edit (slice_get hdus i) p refl (λ hdu is. like i hdu refl is)
-
--- ---- the list of HDUs after an edit of it
-
--- one is put in that stands for itself
-pub insert_filled : (fills : List (Option (List ℕ))) (hdus : List HduParts) (k : ℕ) (one : HduParts) → k ≤ length hdus → length fills ≡ length hdus → all_filled (insert fills k None) (insert hdus k one) ≡ insert (all_filled fills hdus) k one
-insert_filled fills hdus zero one within count = refl
-insert_filled [] [] (suc k) one within count = absurd (omega (arith, within))
-insert_filled [] (hdu ∷ hdus) (suc k) one within count = absurd (omega (arith, count))
-insert_filled (fill ∷ fills) [] (suc k) one within count = absurd (omega (arith, within))
-insert_filled (fill ∷ fills) (hdu ∷ hdus) (suc k) one within count = ap (λ (us : List HduParts). filled fill hdu ∷ us) (insert_filled fills hdus k one (omega (arith, within)) (omega (arith, count)))
-
--- one is taken out
-pub remove_filled : (fills : List (Option (List ℕ))) (hdus : List HduParts) (k : ℕ) → length fills ≡ length hdus → all_filled (remove fills k) (remove hdus k) ≡ remove (all_filled fills hdus) k
-remove_filled [] [] zero count = refl
-remove_filled [] [] (suc k) count = refl
-remove_filled [] (hdu ∷ hdus) k count = absurd (omega (arith, count))
-remove_filled (fill ∷ fills) [] k count = absurd (omega (arith, count))
-remove_filled (fill ∷ fills) (hdu ∷ hdus) zero count = refl
-remove_filled (fill ∷ fills) (hdu ∷ hdus) (suc k) count = ap (λ (us : List HduParts). filled fill hdu ∷ us) (remove_filled fills hdus k (omega (arith, count)))

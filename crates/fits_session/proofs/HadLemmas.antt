@@ -87,18 +87,9 @@ ready_held (Hdu h edit) hdus held = λ i one at there. ready_one edit one (so_he
 ready_held (NewImage at kind axes) hdus held = tt
 ready_held (RemoveHdu h) hdus held = tt
 
--- one of HDUs that all lie in a file does
-pub one_lies_in : (bytes : List ℕ) (hdus : List HduState) (i : ℕ) (one : HduState) → AllLie bytes hdus → i < length hdus → one ≡ get_or hdus i one → LiesIn bytes one.plane one.absent
-one_lies_in bytes hdus i one lie within is =
-    let had : IsHad (in_file bytes) one = subst (IsHad (in_file bytes)) (sym is) (lie i one within) in had.lies
-
 -- reads that some bytes may have given were so before the last of them
 pub told_before : (whole : Bool) (told : List ℕ) (old new : ReadLogState) (hdus : List HduState) → Follows old new → IsTold whole told new hdus → IsTold whole told old hdus
 told_before whole told old new hdus follows all = λ away. let own = all away in (follows told own.0, own.1)
-
--- so are those of HDUs that lie where those lay
-pub told_lying : (whole : Bool) (told : List ℕ) (log : ReadLogState) (old new : List HduState) → LieStill old new → IsTold whole told log old → IsTold whole told log new
-told_lying whole told log old new stay all = λ away. let own = all away in (own.0, stay.lie told own.1)
 
 -- what a session keeps beside how its data units are had goes for any way in which they are
 pub kept_in : (holding other : Holding) (hdus : List HduState) (tail : List ℕ) (bytes : ℕ) (es : List (ExtensionName × ℕ)) (room : ℕ) → IsKept holding hdus tail bytes es room → All (IsHad other) hdus → IsKept other hdus tail bytes es room

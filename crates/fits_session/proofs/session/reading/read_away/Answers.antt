@@ -9,7 +9,7 @@ use Rattle.fits_passing.specs.Met.{hdus_end, parts_met}
 use Rattle.fits_passing.specs.declared.limits.TheConstants.{FILE_LIMIT}
 use Rattle.fits_passing.proofs.StoredLemmas.{rest_there}
 use Rattle.fits_session.specs.Session.{hdus_of}
-use Rattle.fits_session.proofs.AwayLemmas.{end_met, known_file, stops_since, stored_file, tail_follows, tail_stops_since, tail_within, taken_follows}
+use Rattle.fits_session.proofs.AwayLemmas.{end_met, known_file, stored_file, tail_follows, tail_within, taken_follows}
 use Rattle.fits_session.proofs.session.reading.read_away.Goals as goal
 
 -- in whatever file the reads are of, its HDUs and what follows them are the file
