@@ -2,7 +2,7 @@
 use Rattle.std.proofs.Common.{◌≡◌, ℕ, Bool, List, [], ◌++◌, refl, sym, ap, subst, ◌∙◌, inl, inr, Result, Ok, Err}
 use Rattle.std.specs.Result.{IfErr, IfOk, IsErrAnd, OnOk}
 use Rattle.std.proofs.lemmas.Result.{err_from_is_err_and}
-use Rattle.fits_unit.specs.Again.{CopyWrites, PrintsLike}
+use Rattle.fits_unit.specs.Again.{CopyWrites, PrintsAs}
 use Rattle.fits_cli.specs.declared.manner.Manner.{Manner}
 use Rattle.fits_unit.specs.declared.again.CopyFault.{CopyFault}
 use Rattle.fits_unit.specs.declared.again.CopyFault.TheVariants.{Failed, Changed, Write}
@@ -137,12 +137,12 @@ saving_of old new Changed p = record { text = p.0; printed = p.1 }
 saving_of old new Write p = record { text = p.0; front = p.1 }
 
 -- or isn't passed on
-pub saving_unflushed : (bytes : List ℕ) (a b c : SinkState) (fault : Fault) → PrintsLike bytes a b → FlushFails b c fault → SavingLeaves a c fault
-saving_unflushed bytes a b c fault p failed = rw failed.0 (record { text = p.like; front = PrintsFront-unflushed a b c p.like p.written failed.1 })
+pub saving_unflushed : (Is : List ℕ → Type 0) (len : ℕ) (a b c : SinkState) (fault : Fault) → PrintsAs Is len a b → FlushFails b c fault → SavingLeaves a c fault
+saving_unflushed Is len a b c fault p failed = rw failed.0 (record { text = p.like; front = PrintsFront-unflushed a b c p.like p.written failed.1 })
 
 -- what is like a file is so once it is passed on
-pub like_flushed : (bytes : List ℕ) (a b c : SinkState) → PrintsLike bytes a b → Flushes b c → PrintsLike bytes a c
-like_flushed bytes a b c p flush = record { like = p.like; size = p.size; total = p.total; written = Prints-flushed a b c p.like p.written flush }
+pub like_flushed : (Is : List ℕ → Type 0) (len : ℕ) (a b c : SinkState) → PrintsAs Is len a b → Flushes b c → PrintsAs Is len a c
+like_flushed Is len a b c p flush = record { like = p.like; size = p.size; is = p.is; written = Prints-flushed a b c p.like p.written flush }
 
 -- a result that isn't saved whole
 pub result_saving : (whole : Bool) (check : Level) (out saved holds : SinkState) (fault : Fault) → SavingLeaves saved holds fault → ResultLeaves (Made whole check) out out saved holds fault

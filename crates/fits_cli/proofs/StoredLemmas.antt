@@ -5,7 +5,7 @@ use Rattle.fits_stream.specs.Gave.{GaveAll}
 use Rattle.fits_stream.specs.Agree.{IsOf}
 use Rattle.fits_stream.specs.Stored.{ReadLogState}
 use Rattle.fits_stream.specs.Stream.{StaysQuiet}
-use Rattle.fits_session.specs.Away.{StoredStops}
+use Rattle.fits_passing.specs.Met.{StoredStops}
 use Rattle.fits_passing.specs.File.{FileParts, file_bytes, IsFile}
 use Rattle.fits_passing.specs.Opening.{HasOpenFault}
 use Rattle.fits_passing.specs.Reading.{GaveFault, ReadStops}

@@ -6,7 +6,7 @@ use Rattle.fits_session.specs.Marked.{guarded, Marked}
 use Rattle.fits_session.specs.Session.{marked_of}
 use Rattle.fits_cli.specs.Running.{IsLike, Steady}
 use Rattle.fits_cli.proofs.GuardLemmas.{guarded_like}
-use Rattle.fits_cli.proofs.RunLemmas.{lacks_pixels}
+use Rattle.fits_cli.proofs.RunLemmas.{lacks_data}
 use Rattle.fits_cli.proofs.UnderWayLemmas.{lie_on, steady_agree, replies_here}
 use Rattle.fits_cli.proofs.runner.Runner.reply.Goals as goal
 
@@ -14,7 +14,7 @@ use Rattle.fits_cli.proofs.runner.Runner.reply.Goals as goal
 pub returns-in_err-ready-in-Ok-Said-clause-err : goal.returns-in_err-ready-in-Ok-Said-clause-err
 returns-in_err-ready-in-Ok-Said-clause-err g c steady =
     let exit = err_from_is_err_and c.from_residual.result c.from_residual.ensures.1 in
-    rw (exit.1, exit.2) (lacks_pixels c.args.self.now.standing.marked c.args.line.now c.in-Ok-Said.command c.in_err-ready-in-Ok-Said.field-0.0 (sym c.in-Ok-Said.field-0-is ∙ c.in-Ok-Said.ensures.ok) (rw (← c.self.view_is) c.in_err-ready-in-Ok-Said.ensures.wanted)
+    rw (exit.1, exit.2) (lacks_data c.args.self.now.standing.marked c.args.line.now c.in-Ok-Said.command c.in_err-ready-in-Ok-Said.field-0.0 (sym c.in-Ok-Said.field-0-is ∙ c.in-Ok-Said.ensures.ok) (rw (← c.self.view_is) c.in_err-ready-in-Ok-Said.ensures.wanted)
     (c.in_err-ready-in-Ok-Said.ensures.unchanged (steady_agree g.H.Holder.whole _ _ _ c.ready.ensures.follows c.self.invariant.lie steady)))
 
 pub returns-in_err-ready-in-Ok-Said-clause-follows : goal.returns-in_err-ready-in-Ok-Said-clause-follows
