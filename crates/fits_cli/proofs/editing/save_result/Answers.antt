@@ -1,5 +1,6 @@
 use Rattle.std.proofs.Common.{◌∙◌, inl, inr, refl, sym}
 use Rattle.std.proofs.lemmas.Bool.{ltb-true, ltb-false}
+use Rattle.fits_cli.specs.Running.{standing_at}
 use Rattle.fits_cli.proofs.EndingLemmas.{ends_exit, Kept-back, Lacks-report, New-errors-fail, Saving-fails, Succeeds-asked, Succeeds-saved, Unsound-printed}
 use Rattle.fits_cli.proofs.ExitLemmas.{once_or}
 use Rattle.fits_tell.proofs.ExitLemmas.{at_exit}
@@ -9,54 +10,54 @@ use Rattle.fits_cli.proofs.editing.save_result.Goals as goal
 
 -- no result is wanted
 pub returns-in-Nothing-clause-ends : goal.returns-in-Nothing-clause-ends
-returns-in-Nothing-clause-ends g c steady file after script script_after held told told_after run =
-    rw c.status.ensures (Succeeds-asked _ _ _ told told_after c.args.runner.now.standing (read_reports c.args.before.now) c.in-Nothing.is run)
+returns-in-Nothing-clause-ends g c bytes by file after script script_after held told told_after run =
+    rw (c.status.ensures bytes) (Succeeds-asked _ _ _ told told_after (standing_at bytes c.args.runner.now) (read_reports c.args.before.now) c.in-Nothing.is run)
 
 -- lines that weren't done hold it back
 pub returns-then-is_held_back-clause-ends : goal.returns-then-is_held_back-clause-ends
-returns-then-is_held_back-clause-ends g c steady file after script script_after held told told_after run =
-    (rw c.refused.ensures.value (Kept-back _ _ told told_after c.args.runner.now.standing (read_reports c.args.before.now) (sym c.is_held_back.ensures ∙ c.if-is_held_back.true) run), refl)
+returns-then-is_held_back-clause-ends g c bytes by file after script script_after held told told_after run =
+    (rw c.refused.ensures.value (Kept-back _ _ told told_after (standing_at bytes c.args.runner.now) (read_reports c.args.before.now) (sym c.is_held_back.ensures ∙ c.if-is_held_back.true) run), refl)
 
 -- memory is refused for its report
 pub returns-in_err-found-in-Made-clause-ends : goal.returns-in_err-found-in-Made-clause-ends
-returns-in_err-found-in-Made-clause-ends g c steady file after script script_after held told told_after run =
+returns-in_err-found-in-Made-clause-ends g c bytes by file after script script_after held told told_after run =
     ends_exit _ _ _ _ _ _ c.from_residual.ensures.1
-    (inl (Lacks-report _ _ told told_after c.args.runner.now.standing (read_reports c.args.before.now) run (sym c.is_held_back.ensures ∙ c.if-is_held_back.false) (rw c.in-Made.is c.in_err-found-in-Made.ensures.err), refl))
+    (inl (Lacks-report _ _ told told_after (standing_at bytes c.args.runner.now) (read_reports c.args.before.now) run (sym c.is_held_back.ensures ∙ c.if-is_held_back.false) (rw c.in-Made.is c.in_err-found-in-Made.ensures.err), refl))
 
 -- the lines of what is new can't be written
 pub returns-in_err-print_at_once-in-Made-clause-ends : goal.returns-in_err-print_at_once-in-Made-clause-ends
-returns-in_err-print_at_once-in-Made-clause-ends g c steady file after script script_after held told told_after run =
+returns-in_err-print_at_once-in-Made-clause-ends g c bytes by file after script script_after held told told_after run =
     let fails = rw (c.deref.ensures.value, c.in_ok-found-in-Made.ensures.text) at c.in_err-print_at_once-in-Made.ensures.err in
     ends_exit _ _ _ _ _ _ c.from_residual-in_err-print_at_once-in-Made.ensures.1
     (inl (
-      rw fails.0 (inr (New-errors-fail _ _ _ told told_after c.args.runner.now.standing (read_reports c.args.before.now) c.in_ok-found-in-Made.found.errors c.in_ok-found-in-Made.found.warnings refl refl run (sym c.is_held_back.ensures ∙ c.if-is_held_back.false)
+      rw fails.0 (inr (New-errors-fail _ _ _ told told_after (standing_at bytes c.args.runner.now) (read_reports c.args.before.now) c.in_ok-found-in-Made.found.errors c.in_ok-found-in-Made.found.warnings refl refl run (sym c.is_held_back.ensures ∙ c.if-is_held_back.false)
           (rw c.in-Made.is (record { errors_are = c.in_ok-found-in-Made.ensures.errors; warnings_are = c.in_ok-found-in-Made.ensures.warnings })) (ltb-true _ _ (sym c.are_some.ensures ∙ c.if-are_some.true)) (rw c.in-Made.is fails.1))),
       refl,
     ))
 
 -- they are
 pub returns-then-are_some-clause-ends : goal.returns-then-are_some-clause-ends
-returns-then-are_some-clause-ends g c steady file after script script_after held told told_after run =
+returns-then-are_some-clause-ends g c bytes by file after script script_after held told told_after run =
     let printed = rw (c.deref.ensures.value, c.in_ok-found-in-Made.ensures.text) at c.in_ok-print_at_once-in-Made.ensures.ok in (
-      Unsound-printed _ _ _ told told_after c.args.runner.now.standing (read_reports c.args.before.now) c.in_ok-found-in-Made.found.errors c.in_ok-found-in-Made.found.warnings refl refl run (sym c.is_held_back.ensures ∙ c.if-is_held_back.false)
+      Unsound-printed _ _ _ told told_after (standing_at bytes c.args.runner.now) (read_reports c.args.before.now) c.in_ok-found-in-Made.found.errors c.in_ok-found-in-Made.found.warnings refl refl run (sym c.is_held_back.ensures ∙ c.if-is_held_back.false)
           (rw c.in-Made.is (record { errors_are = c.in_ok-found-in-Made.ensures.errors; warnings_are = c.in_ok-found-in-Made.ensures.warnings })) (ltb-true _ _ (sym c.are_some.ensures ∙ c.if-are_some.true)) (rw c.in-Made.is printed) c.in_ok-print_at_once-in-Made.ensures.flushed,
       refl,
     )
 
 -- it can't be saved
 pub returns-in_err-save-in-Made-clause-ends : goal.returns-in_err-save-in-Made-clause-ends
-returns-in_err-save-in-Made-clause-ends g c steady file after script script_after held told told_after run =
+returns-in_err-save-in-Made-clause-ends g c bytes by file after script script_after held told told_after run =
     ends_exit _ _ _ _ _ _ c.from_residual-in_err-save-in-Made.ensures.1
-    (Saving-fails _ _ _ _ told told_after c.args.runner.now.standing (read_reports c.args.before.now) c.in-Made.whole c.in-Made.check c.in_ok-found-in-Made.found.errors c.in_ok-found-in-Made.found.warnings _ run c.in-Made.is (sym c.is_held_back.ensures ∙ c.if-is_held_back.false)
+    (Saving-fails _ _ _ _ told told_after (standing_at bytes c.args.runner.now) (read_reports c.args.before.now) c.in-Made.whole c.in-Made.check c.in_ok-found-in-Made.found.errors c.in_ok-found-in-Made.found.warnings _ run c.in-Made.is (sym c.is_held_back.ensures ∙ c.if-is_held_back.false)
     (rw c.in-Made.is (record { errors_are = c.in_ok-found-in-Made.ensures.errors; warnings_are = c.in_ok-found-in-Made.ensures.warnings })) (ltb-false _ _ (sym c.are_some.ensures ∙ c.if-are_some.false)) (once_or g.H.Holder.whole _ c.in_err-save-in-Made.ensures.once)
-    (rw c.in_ok-found-in-Made.ensures.left at (c.in_err-save-in-Made.ensures.err steady)))
+    (rw c.in_ok-found-in-Made.ensures.left at (c.in_err-save-in-Made.ensures.err bytes by)))
 
 -- it is
 pub returns-in_ok-save-in-Made-clause-ends : goal.returns-in_ok-save-in-Made-clause-ends
-returns-in_ok-save-in-Made-clause-ends g c steady file after script script_after held told told_after run =
-    rw (c.status-in-Made.ensures, c.save.ensures.standing, c.in_ok-found-in-Made.ensures.left)
-    (Succeeds-saved _ _ _ _ told told_after c.args.runner.now.standing (read_reports c.args.before.now) c.in-Made.whole c.in-Made.check c.in_ok-found-in-Made.found.errors c.in_ok-found-in-Made.found.warnings run c.in-Made.is (sym c.is_held_back.ensures ∙ c.if-is_held_back.false)
-    (rw c.in-Made.is (record { errors_are = c.in_ok-found-in-Made.ensures.errors; warnings_are = c.in_ok-found-in-Made.ensures.warnings })) (ltb-false _ _ (sym c.are_some.ensures ∙ c.if-are_some.false)) (rw c.in_ok-found-in-Made.ensures.left at (c.in_ok-save-in-Made.ensures.ok steady)) c.in_ok-save-in-Made.ensures.flushed)
+returns-in_ok-save-in-Made-clause-ends g c bytes by file after script script_after held told told_after run =
+    rw (c.status-in-Made.ensures bytes, c.save.ensures.standing bytes, c.in_ok-found-in-Made.ensures.left)
+    (Succeeds-saved _ _ _ _ told told_after (standing_at bytes c.args.runner.now) (read_reports c.args.before.now) c.in-Made.whole c.in-Made.check c.in_ok-found-in-Made.found.errors c.in_ok-found-in-Made.found.warnings run c.in-Made.is (sym c.is_held_back.ensures ∙ c.if-is_held_back.false)
+    (rw c.in-Made.is (record { errors_are = c.in_ok-found-in-Made.ensures.errors; warnings_are = c.in_ok-found-in-Made.ensures.warnings })) (ltb-false _ _ (sym c.are_some.ensures ∙ c.if-are_some.false)) (rw c.in_ok-found-in-Made.ensures.left at (c.in_ok-save-in-Made.ensures.ok bytes by)) c.in_ok-save-in-Made.ensures.flushed)
 
 -- what stands then
 pub returns-in_err-print_at_once-in-Made-clause-leaves : goal.returns-in_err-print_at_once-in-Made-clause-leaves
