@@ -32,6 +32,7 @@ import odd_places
 import one_file
 import openings
 import pairs
+import peers
 import pixel_edits
 import planes
 import program
@@ -59,6 +60,7 @@ TABLES = [
     json_lines,
     commands,
     pairs,
+    peers,
     reports,
     codes,
     tables,
