@@ -162,13 +162,15 @@ held_end s left rest so_far none = ap (held_after s) (sym none) ∙ so_far
 pub asked_as : (s before : Standing) (first : List ℕ) (plains : List (List ℕ)) → s ≡ held_after before plains → first ≡ first_line plains → (s, first) ≡ asked_again before plains
 asked_as s before first plains is one = ap (λ (st : Standing). (st, first)) is ∙ ap (λ (t : List ℕ). (held_after before plains, t)) one
 
--- where one is done, that is what they print and leave, and nothing is said of them
+-- where one is done, that is what they print
 pub each_done : (s : Standing) (plains : List (List ℕ)) → all_refused s plains ≡ false → hdu_answers 1 s plains ≡ each_answer s plains
 each_done s plains some = sym (ap (λ (is : Bool). if is then plain_answer (asked_again s plains) else hdu_answers 1 s plains) some)
 
+-- so it is with what they leave
 pub each_done_left : (s : Standing) (plains : List (List ℕ)) → all_refused s plains ≡ false → at_next (held_after s plains) ≡ each_left s plains
 each_done_left s plains some = sym (ap (λ (is : Bool). if is then plain_left (asked_again s plains) else at_next (held_after s plains)) some)
 
+-- and nothing is said of them
 pub each_done_quiet : (s : Standing) (plains : List (List ℕ)) → all_refused s plains ≡ false → [] ≡ each_remark s plains
 each_done_quiet s plains some = sym (ap (λ (is : Bool). if is then plain_remark (asked_again s plains) else []) some)
 
@@ -176,8 +178,10 @@ each_done_quiet s plains some = sym (ap (λ (is : Bool). if is then plain_remark
 pub each_none : (s : Standing) (plains : List (List ℕ)) → all_refused s plains ≡ true → plain_answer (asked_again s plains) ≡ each_answer s plains
 each_none s plains all = sym (ap (λ (is : Bool). if is then plain_answer (asked_again s plains) else hdu_answers 1 s plains) all)
 
+-- so it is with what that leaves
 pub each_none_left : (s : Standing) (plains : List (List ℕ)) → all_refused s plains ≡ true → plain_left (asked_again s plains) ≡ each_left s plains
 each_none_left s plains all = sym (ap (λ (is : Bool). if is then plain_left (asked_again s plains) else at_next (held_after s plains)) all)
 
+-- and with what is said of it
 pub each_none_said : (s : Standing) (plains : List (List ℕ)) → all_refused s plains ≡ true → plain_remark (asked_again s plains) ≡ each_remark s plains
 each_none_said s plains all = sym (ap (λ (is : Bool). if is then plain_remark (asked_again s plains) else []) all)
