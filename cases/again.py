@@ -1,6 +1,7 @@
-"""A stored file is read once as it opens, and its data units again: one alone where a line wants its pixels (a load), and the
-others where they are saved (a copy). What a run comes to where the file changes between, where a read fails or memory is
-refused then, where OUT is IN, and over files that there is no room for in memory.
+"""Of a stored file the headers are read as it opens, and small data units; a large one where a line looks at it, or as it is
+saved. A data unit that was read is read again where a line wants its pixels (a load), and where it is saved (a copy). What a
+run comes to where the file changes between, where a read fails or memory is refused then, where OUT is IN, and over files that
+there is no room for in memory.
 
 A file changes by `faults.c`, before bytes of it are read again, or between two lines that are answered as they come."""
 import contextlib
@@ -20,6 +21,10 @@ CHANGED = b"fitsed: the file changed while it was read\n"
 # The pixels of HDU 2, which are a hundred thousand of 16 bits, and a card that says which of them are blank.
 SIGNED = [(number + 2**15) % 2**16 - 2**15 for number in range(100_000)]
 WITH_BLANK = header(MANY.replace("|END", "|BLANK   =                    7|END")) + SECOND[2880:]
+
+# A line that looks at the data of HDU 2, so that they are known from then on, and what it prints.
+KNOWN = "stat 2"
+STATISTICS = f"defined 100000 blank 0 min -32768 max 32767 sum {sum(SIGNED)}\n"
 
 # Lines that want pixels of HDU 2, what they print, and what is saved.
 LOADS = [
@@ -41,12 +46,15 @@ LOADS = [
 # Lines that want none, so that all data are copied.
 COPIES = [
     ("set 1 OBJECT 'M31'", "", WITH_OBJECT + SECOND + THIRD + TAIL),
-    ("stat 2", f"defined 100000 blank 0 min -32768 max 32767 sum {sum(SIGNED)}\n", BEFORE),
+    (KNOWN, STATISTICS, BEFORE),
     ("set 2 BLANK 7", "", FIRST + WITH_BLANK + THIRD + TAIL),
 ]
 
 # Lines over which nothing is read again where nothing is saved.
 QUIET = ["", "off", "rep", "sum 2", "stat 2", "stamp 2", "keep 2", "set 2 BLANK 7", "set 1 OBJECT 'M31'", "new 2 u8 3", "rm 2"]
+
+# Lines that look at no data of HDU 2.
+UNREAD = ["", "get 2 BITPIX", "pos 2 NAXIS", "ins 2 5 COMMENT", "set 2 BLANK 7", "reshape 4 u8 3", "stat 3", "new 2 u8 3", "rm 2"]
 
 # The words of a run, of which the last is OUT where one saves, and what stands at `out.fits` before: two that are tried with
 # each line, and others with the first.
@@ -90,6 +98,7 @@ LONG = MANY.replace("XTENSION= 'IMAGE   '|", "SIMPLE  =                    T|").
 )
 FILES = {"a.fits": FIRST, "b.fits": header(LONG) + SECOND[2880:], "c.fits": FIRST}
 ANSWERS = {"a.fits": "5 9 9\n", "b.fits": "0 1 2\n", "c.fits": "5 9 9\n"}
+KNOWN_OF = {"b.fits": STATISTICS, **dict.fromkeys(("a.fits", "c.fits"), "defined 3 blank 0 min 5 max 9 sum 23\n")}
 FOURTH = {
     "a.fits": header(THREE_PIXELS) + pixels(2, [4, 9, 9], 0),
     "b.fits": header(LONG) + pixels(2, [4, *SIGNED[1:]], 0),
@@ -120,7 +129,7 @@ TIMEOUT = 120
 SHM = "/dev/shm" if os.access("/dev/shm", os.W_OK) else None
 
 # Lines that want pixels of such an image.
-TOO_LARGE = ["fill 1 1:1 5", "write 1 1:1 5", "rect 1 1:1", "reshape 1 i16 1", "set 1 BLANK 7\nstat 1"]
+TOO_LARGE = ["fill 1 1:1 5", "write 1 1:1 5", "rect 1 1:1", "reshape 1 i16 1", "stamp 1\nset 1 BLANK 7\nstat 1"]
 
 
 @dataclasses.dataclass(frozen=True)
@@ -157,11 +166,12 @@ class Run:
 
 
 def runs(ways, lines, loads):
-    """A line between two that are answered, run in each of these ways."""
+    """A line between two that are answered, run in each of these ways. One that loads data has had them known before."""
+    first, told = (KNOWN, STATISTICS) if loads else ("get 1 BITPIX", "integer 16\n")
     for words, old in ways:
         for line, answer, saved in lines:
-            script, printed = f"get 1 BITPIX\n{line}\nget 1 NAXIS", f"integer 16\n{answer}integer 1\n".encode()
-            front = b"integer 16\n" if loads else printed
+            script, printed = f"{first}\n{line}\nget 1 NAXIS", f"{told}{answer}integer 1\n".encode()
+            front = told.encode() if loads else printed
             run = Run(words, old, script.encode(), front, printed, saved if words[0] == "edit" else None)
             yield f"{words}, {'over another, ' if old else ''}{line}", run
 
@@ -202,11 +212,13 @@ def of_copies(shim):
         yield from of_plain(shim, name, run)
     for line in QUIET:
         yield f"ask {line}, nothing is read again", quiet, shim, line
+    for line in UNREAD:
+        yield f"ask {line}, data stay unread", unread, shim, line
 
 
 def of_any(shim, name, run):
-    # a file that changes isn't replaced, wherever it does
-    fault = CHANGED if run.is_of_itself() else None
+    # nothing is saved of a file that changes, wherever it does
+    fault = CHANGED if run.saved else None
     for change in ELSEWHERE:
         yield f"{name}, {change} elsewhere", changes, shim, run, change, fault, run.printed
     yield f"{name}, reads again fail", each_read_fails, shim, run, {}
@@ -255,7 +267,7 @@ def of_itself(ways, options, script, after, is_written, row):
 
 
 def of_files(shim):
-    for words, script, done in ((["ask"], "rect 1 1:3", FILES), (["edit", "-i"], "rect 1 1:3\nfill 1 1:1 4", FOURTH)):
+    for words, script, done in ((["ask"], "stat 1\nrect 1 1:3", FILES), (["edit", "-i"], "stat 1\nrect 1 1:3\nfill 1 1:1 4", FOURTH)):
         yield f"{words} of several, one changes", one_changes, shim, [*words, *FILES], script, done
         yield f"{words} of several, reads again fail", one_fails, shim, [*words, *FILES], script, done
 
@@ -331,6 +343,17 @@ def quiet(program, shim, line):
         yield f"it is read again {count} times"
 
 
+def unread(program, shim, line):
+    """Where the file is read more often for a line that is asked than for one that looks at no HDU."""
+    row = {"LD_PRELOAD": shim, "STREAM": "file", "COUNTED": "1"}
+    ran, least = counted(program.under(**row).over(["ask", "in.fits"], {"in.fits": BEFORE}, b"off")[0])
+    yield from differences(ran, status=0, reported=b"")
+    ran, count = counted(program.under(**row).over(["ask", "in.fits"], {"in.fits": BEFORE}, line.encode())[0])
+    yield from differences(ran, reported=b"")
+    if count != least:
+        yield f"it is read {count} times, and not {least}"
+
+
 def as_apart(program, words, script, is_written):
     """Where a script over a file that is IN and OUT saves something else than over one that is IN alone."""
     _, after = program.under().over(["edit", "in.fits", "out.fits"], {"in.fits": BEFORE}, script.encode())
@@ -348,7 +371,7 @@ def one_changes(program, shim, words, script, done):
     """Where of several files one changes, and it isn't told of that one alone, or the others aren't done."""
     row = {"LD_PRELOAD": shim, "BYTE": "100000"}
     ran, after = program.under(**row).over(words, FILES, script.encode())
-    printed = "".join(f"{name}:{answer}" for name, answer in ANSWERS.items() if name != "b.fits").encode()
+    printed = "".join(f"{name}:{known}" + (f"{name}:{ANSWERS[name]}" if name != "b.fits" else "") for name, known in known_of()).encode()
     ends = {"status": 3, "printed": printed, "reported": named(CHANGED, "b.fits")}
     return apart(ran, after, ends, {**done, "b.fits": changed_by(FILES["b.fits"], row)})
 
@@ -372,6 +395,11 @@ def one_fails(program, shim, words, script, done):
                 yield f"failed at {k}: it prints {shown(ran.printed)}"
     if failing != list(FILES):
         yield f"reads of {failing} fail"
+
+
+def known_of():
+    """The files, in their order, and what is printed of each first."""
+    return [(name, KNOWN_OF[name]) for name in FILES]
 
 
 def named(fault, name):
@@ -399,27 +427,32 @@ def apart(ran, after, ends, files):
 def of_dialogues():
     rows = [
         # a data unit that is loaded isn't read again, by a line or as it is saved; another is
-        ("rect 2 1:3", "0 1 2\n", put(100_000, b"xxxx"), "rect 2 1:3", "0 1 2\n", None, BEFORE),
-        ("rect 2 1:3", "0 1 2\n", put(100_000, b"xxxx"), "fill 2 1:1 5", "", None, LOADS[0][2]),
-        ("rect 2 1:3", "0 1 2\n", put(213_120, b"xx"), "rect 3 1:1", "", CHANGED, None),
-        ("rect 2 1:3", "0 1 2\n", put(213_120, b"xx"), "rect 2 1:3", "0 1 2\n", CHANGED, None),
-        ("get 1 BITPIX", "integer 16\n", put(100_000, b"xxxx"), "rect 3 1:1", "7\n", CHANGED, None),
+        ("rect 2 1:3", "0 1 2\n", put(100_000, b"xxxx"), "rect 2 1:3", "0 1 2\n", None),
+        ("rect 2 1:3", "0 1 2\n", put(100_000, b"xxxx"), "fill 2 1:1 5", "", None),
+        ("rect 2 1:3", "0 1 2\n", put(213_120, b"xx"), "rect 3 1:1", "", None),
+        ("rect 2 1:3", "0 1 2\n", put(213_120, b"xx"), "rect 2 1:3", "0 1 2\n", None),
+        ("get 1 BITPIX", "integer 16\n", put(100_000, b"xxxx"), "rect 3 1:1", "7\n", None),
+        # one that is known is compared
+        ("stat 2", STATISTICS, put(100_000, b"xxxx"), "rect 2 1:3", "", None),
         # what was changed and is what it was again
-        ("get 1 BITPIX", "integer 16\n", put(100_000, BEFORE[100_000:100_004]), "rect 2 1:3", "0 1 2\n", None, BEFORE),
+        ("get 1 BITPIX", "integer 16\n", put(100_000, BEFORE[100_000:100_004]), "rect 2 1:3", "0 1 2\n", None),
         # an HDU more, or a file without its tail
-        ("get 1 BITPIX", "integer 16\n", put(216_004, THIRD), "stat 3", "defined 1 blank 0 min 7 max 7 sum 7\n", None, BEFORE),
-        ("rm 3\nget 1 BITPIX", "integer 16\n", cut(210_240), "get 1 NAXIS", "integer 1\n", None, FIRST + SECOND + TAIL),
-        ("rm 3\nget 1 BITPIX", "integer 16\n", cut(210_239), "get 1 NAXIS", "integer 1\n", CHANGED, None),
+        ("get 1 BITPIX", "integer 16\n", put(216_004, THIRD), "stat 3", "defined 1 blank 0 min 7 max 7 sum 7\n", None),
+        ("rm 3\nget 1 BITPIX", "integer 16\n", cut(210_240), "get 1 NAXIS", "integer 1\n", None),
+        ("rm 3\nget 1 BITPIX", "integer 16\n", cut(210_239), "get 1 NAXIS", "integer 1\n", None),
         # the name is no longer that of the file
-        ("get 1 BITPIX", "integer 16\n", renamed, "rect 2 1:3", "0 1 2\n", None, BEFORE),
-        ("get 1 BITPIX", "integer 16\n", os.remove, "fill 2 1:1 5", "", None, LOADS[0][2]),
+        ("get 1 BITPIX", "integer 16\n", renamed, "rect 2 1:3", "0 1 2\n", BEFORE),
+        ("get 1 BITPIX", "integer 16\n", os.remove, "fill 2 1:1 5", "", LOADS[0][2]),
     ]
+    # one that is unread is what it is by then; with -c none is
+    unknown = ("get 1 BITPIX", "integer 16\n", put(8640, b"\0\7"), "rect 2 1:3", "7 1 2\n", None)
     for options in ([], ["-a"], ["-c"]):
-        for row in rows:
+        for *row, saved in rows if options == ["-c"] else [*rows, unknown]:
             words = ["edit", *options, "in.fits", "out.fits"]
-            yield f"{words} {row[0]}, then {row[3]}, {row[5] or 'whole'}", dialogue, words, *row
-    for row in rows[:3]:
-        yield f"ask {row[0]}, then {row[3]}, {row[5] or 'whole'}", dialogue, ["ask", "in.fits"], *row[:-1], None
+            yield f"{words} {row[0]}, then {row[3]}", dialogue, words, *row, None if saved else CHANGED, saved
+    for *row, _ in [*rows, unknown]:
+        fault = None if row[4] or row[3].startswith("fill") else CHANGED
+        yield f"ask {row[0]}, then {row[3]}, {fault or 'whole'}", dialogue, ["ask", "in.fits"], *row, fault, None
 
 
 def put(place, what):
@@ -481,7 +514,7 @@ def of_kept(shim):
     faults = [
         ("fill 2 1:1 5", LOADS[0][2], {"BYTE": "100000"}),
         ("set 1 OBJECT 'M31'", COPIES[0][2], {"BYTE": "215999"}),
-        ("set 1 OBJECT 'M31'", COPIES[0][2], {"STREAM": "again", "FAIL": "3"}),
+        ("set 1 OBJECT 'M31'", COPIES[0][2], {"STREAM": "again", "FAIL": "2"}),
     ]
     for line, saved, fault in faults:
         for name, *row, names in AT_OUT:

@@ -18,6 +18,7 @@
 #include <stdio.h>
 #include <stdlib.h>
 #include <string.h>
+#include <sys/stat.h>
 #include <sys/syscall.h>
 #include <unistd.h>
 
@@ -26,9 +27,11 @@ extern void *__libc_malloc(size_t), *__libc_realloc(void *, size_t);
 static const char *stream = 0;
 static unsigned long requests = 0, calls = 0, refuse = 0, fail = 0, stop = -1, step = -1, when = 1;
 
-// How far the file was read that was opened last to be read; how often bytes were read again; what is to change of a file, if
-// anything, and whether it did.
-static off_t furthest = 0, byte = -1, length = -1;
+// Which stretches were read of the file that was opened last to be read, and how many they are; how often bytes were read
+// again; what is to change of a file, if anything, and whether it did.
+static struct { off_t from, to; } seen[4096];
+static int stretches = 0;
+static off_t byte = -1, length = -1;
 static unsigned long again = 0;
 static int is_changed = 0;
 
@@ -85,11 +88,44 @@ static void change(int fd) {
     close(it);
 }
 
+// Where the stretch ends that was read and has the byte at a place, or that place.
+static off_t read_to(off_t at) {
+    for (int k = 0; k < stretches; k++)
+        if (seen[k].from <= at && at < seen[k].to) return seen[k].to;
+    return at;
+}
+
+// Whether all bytes that a read of so many is to give were read before.
+static int was_read(int fd, off_t at, size_t n) {
+    struct stat about;
+    if (fstat(fd, &about)) return 0;
+    off_t end = at + (off_t)n < about.st_size ? at + (off_t)n : about.st_size;
+    off_t from = at;
+    while (from < end) {
+        off_t to = read_to(from);
+        if (to == from) return 0;
+        from = to;
+    }
+    return at < end;
+}
+
+// Bytes were read: they go on a stretch, or are one.
+static void note(off_t from, off_t to) {
+    for (int k = 0; k < stretches; k++)
+        if (seen[k].from <= from && from <= seen[k].to) {
+            if (seen[k].to < to) seen[k].to = to;
+            return;
+        }
+    if (stretches == sizeof seen / sizeof *seen) return;
+    seen[stretches].from = from;
+    seen[stretches++].to = to;
+}
+
 ssize_t pread(int fd, void *bytes, size_t n, off_t at) {
-    int is_again = at < furthest;
+    int is_again = was_read(fd, at, n);
     if (is_again && ++again >= when && !is_changed && (byte >= 0 || length >= 0)) change(fd);
     ssize_t count = moved(SYS_pread64, is_again && counts("again") ? "again" : "file", fd, bytes, n, at);
-    if (count > 0 && at + count > furthest) furthest = at + count;
+    if (count > 0) note(at, at + count);
     return count;
 }
 
@@ -115,7 +151,7 @@ int open(const char *path, int flags, ...) {
     int fd = flags & O_EXCL && denied("create") ? -1 : syscall(SYS_open, path, flags, va_arg(more, int));
     va_end(more);
     // a file to be read, another than before
-    if ((flags & O_ACCMODE) == O_RDONLY) furthest = 0;
+    if ((flags & O_ACCMODE) == O_RDONLY) stretches = 0;
     return fd;
 }
 

@@ -124,13 +124,14 @@ fn answer_line(alloc: Global, session: &mut Session, line: &[u8]) -> Result<Vec<
 }
 
 // Does a command, and gives what it prints.
-#[tactic(auto, using(crate::proofs::SessionLemmas::in_memory))]
+#[tactic(auto, using(crate::proofs::SessionLemmas::ready_held))]
 fn do_command(alloc: Global, session: &mut Session, command: Command) -> Result<Vec<u8>, Refusal>
     ensures ok { IfOk result (λ text. outcome_of (marked_of session.old) command
         ≡ Ok (record { text = text.items; left = marked_of session.new })) }
     ensures err { IfErr result (CommandFails (marked_of session.old) command) }
     ensures kept { OnErr result (marked_of session.new ≡ marked_of session.old) }
 {
+    session.is_sound();
     match ready(session, &command, &mut ReadLog::none()) {
         Ok(()) => answer_command(alloc, session, false, command),
         // All data are in memory.

@@ -4,7 +4,7 @@ use Rattle.std.proofs.lemmas.Bool.{le-ltb, lt-ltb}
 use Rattle.std.specs.Prelude.{◌&&◌, ◌||◌, not, nat_lt, codes, if◌then◌else◌}
 use Rattle.std.specs.Fmt.{decimal}
 use Rattle.fits_script.specs.Line.{reading_of}
-use Rattle.fits_cli.specs.Answer.{Standing, all_refused, asked_again, at_next, each_answer, each_left, first_line, hdu_answer, hdu_answers, held_after, held_at, is_refused, line_answer, line_left, plain_answer, plain_left, AtEach, PlainWantsPixels}
+use Rattle.fits_cli.specs.Answer.{Standing, all_refused, asked_again, at_next, each_answer, each_left, first_line, hdu_answer, hdu_answers, held_after, held_at, is_refused, line_answer, line_left, plain_answer, plain_left, AtEach, PlainWantsData}
 use Rattle.fits_cli.specs.Faults.{IsUnchanged}
 use Rattle.fits_cli.specs.Remark.{each_remark, plain_remark}
 use Rattle.fits_cli.specs.Reply.{counts_as_refused, numbered_reply, reply_text}
@@ -54,12 +54,12 @@ LacksEach-at s plains ReadFailed at = AtEach-so (LacksOne ReadFailed) ⊥ (λ s 
 LacksEach-at s plains WriteFailed at = AtEach-so (LacksOne WriteFailed) ⊥ (λ s plain is. is) (first_line plains) s plains at
 LacksEach-at s plains (RereadFault why) at = (
   AtEach-so (LacksOne (RereadFault why)) (IsUnchanged why) (λ s plain is. is.0) (first_line plains) s plains at,
-  AtEach-weaker (LacksOne (RereadFault why)) PlainWantsPixels (λ s plain is. is.1) (first_line plains) s plains at,
+  AtEach-weaker (LacksOne (RereadFault why)) PlainWantsData (λ s plain is. is.1) (first_line plains) s plains at,
 )
 
 -- so they aren't answered
 pub StopsAs-each : (text : List ℕ) (s : Standing) (plains : List (List ℕ)) (held : Heard) (fault : Fault) → LacksEach s plains fault
-    → StopsAs text (Unit {0}) (AtEach PlainWantsPixels (first_line plains) s plains) held held fault
+    → StopsAs text (Unit {0}) (AtEach PlainWantsData (first_line plains) s plains) held held fault
 StopsAs-each text s plains held (Refused why) lacks = lacks
 StopsAs-each text s plains held ScriptTooLong lacks = lacks
 StopsAs-each text s plains held Memory lacks = (lacks, refl)

@@ -19,7 +19,7 @@ use Rattle.fits_passing.specs.declared.open_fault.OpenFault.TheVariants.{NotFits
 use Rattle.fits_passing.specs.declared.read_file_fault.ReadFileFault.{ReadFileFault}
 use Rattle.fits_passing.specs.declared.read_file_fault.ReadFileFault.TheVariants.{Open, Failed}
 use Rattle.fits_cli.specs.Answer.{Standing, at_first_line}
-use Rattle.fits_cli.specs.Ends.{end_of, RunState, AreToldOf, FlushesOrFails, GaveFile, IsQuiet, HasLines, LacksPixels, IsRefused, AnswersFail, RemarksBy, RemarksEndAs, StopsBy}
+use Rattle.fits_cli.specs.Ends.{end_of, RunState, AreToldOf, FlushesOrFails, GaveFile, IsQuiet, HasLines, LacksWantedData, IsRefused, AnswersFail, RemarksBy, RemarksEndAs, StopsBy}
 use Rattle.fits_tell.specs.Faults.{fault_of_file}
 use Rattle.fits_cli.specs.Terms.{check_of}
 use Rattle.fits_cli.specs.declared.edited.Edited.{Edited}
@@ -28,7 +28,7 @@ use Rattle.fits_cli.specs.declared.limits.TheConstants.{SCRIPT_LIMIT}
 use Rattle.fits_cli.specs.Remark.{remarks, Remarks}
 use Rattle.fits_cli.specs.Output.{Output, answers, standing_after, output_unopened, output_of_lines, output_too_long, IsOutputOf}
 use Rattle.fits_cli.specs.Reports.{reports_of, Reports}
-use Rattle.fits_cli.specs.Running.{Heard, heard, AnswersScript, AnswersTooLong, NeedsMemoryAt, ScriptLacksPixels, ScriptReadFails, ScriptWriteFails, ScriptStops, FlushesThen, FlushesAnswers, IsAnsweredRun}
+use Rattle.fits_cli.specs.Running.{Heard, heard, AnswersScript, AnswersTooLong, NeedsMemoryAt, ScriptLacksData, ScriptReadFails, ScriptWriteFails, ScriptStops, FlushesThen, FlushesAnswers, IsAnsweredRun}
 use Rattle.fits_cli.specs.Script.{script_lines}
 use Rattle.fits_tell.specs.declared.fault.Fault.{Fault}
 use Rattle.fits_tell.specs.declared.fault.Fault.TheVariants.{Refused, ScriptTooLong, Memory, ReadFailed, WriteFailed, Reread as RereadFault}
@@ -300,10 +300,10 @@ StopsBy-write old new mid told told_after result fault parts is opened of_file f
 -- a run that wants data again, which it doesn't have
 StopsBy-pixels : (old new : RunState) (mid : SinkState) (told told_after : Option SinkState) (result : Result (Unit {0}) Fault) (why : Reread) (fault : Fault) (parts : FileParts) → result ≡ Err fault → old.stored ≡ true
     → GaveFile old.file new.file parts → IsQuiet old.stored old.file new.file
-    → ScriptLacksPixels old.script new.script (at_first_line old.terms parts) (heard old.printed told) (heard mid told_after) why → Ended result (RereadFault why) mid new.printed → StopsBy old new fault
+    → ScriptLacksData old.script new.script (at_first_line old.terms parts) (heard old.printed told) (heard mid told_after) why → Ended result (RereadFault why) mid new.printed → StopsBy old new fault
 StopsBy-pixels old new mid told told_after result why fault parts is stored opened of_file lacks (inl flush) =
     let at = lacks.at in
-    let here : LacksPixels old new = record {
+    let here : LacksWantedData old new = record {
       read = record { of_file = of_file; of_script = lacks.quiet };
       at = record {
         parts = parts;

@@ -1,9 +1,11 @@
 -- What a run leaves, step by step, whatever the reads of its file gave.
-use Rattle.std.proofs.Common.{◌≡◌, ℕ, Bool, List, [], ◌++◌, refl, sym, ap, subst, ◌∙◌, inl, inr, Result, Ok, Err}
+use Rattle.std.proofs.Common.{◌≡◌, ℕ, Bool, List, length, [], ◌++◌, refl, sym, ap, subst, ◌∙◌, inl, inr, Result, Ok, Err}
 use Rattle.std.specs.Result.{IfErr, IfOk, IsErrAnd, OnOk}
 use Rattle.std.proofs.lemmas.Result.{err_from_is_err_and}
-use Rattle.fits_unit.specs.Again.{CopyWrites, PrintsLike}
+use Rattle.fits_unit.specs.Again.{CopyWrites, PrintsAs}
 use Rattle.fits_cli.specs.declared.manner.Manner.{Manner}
+use Rattle.fits_passing.specs.declared.look.Look.{Look}
+use Rattle.fits_cli.specs.Terms.{look_of}
 use Rattle.fits_unit.specs.declared.again.CopyFault.{CopyFault}
 use Rattle.fits_unit.specs.declared.again.CopyFault.TheVariants.{Failed, Changed, Write}
 use Rattle.fits_stream.specs.Stream.{SinkState, SourceState, FailsToFlush, Flushes, StaysQuiet}
@@ -14,7 +16,7 @@ use Rattle.fits_passing.specs.declared.read_file_fault.ReadFileFault.TheVariants
 use Rattle.fits_cli.specs.Answer.{Standing}
 use Rattle.fits_tell.specs.Faults.{fault_of_copy, fault_of_file, FlushFails, PrintFails}
 use Rattle.fits_cli.specs.Ends.{end_of}
-use Rattle.fits_cli.specs.Frame.{AnswersLeave, AsksLeave, EndLeaves, IsUnanswered, LeavesAs, LeavesFault, LinesLeave, PrintsPart, PrintsSome, ResultLeaves, SavingLeaves, ScriptAnswers, ScriptLeaves}
+use Rattle.fits_cli.specs.Frame.{AnswersLeave, AsksLeave, EndLeaves, HasTotalBy, IsUnanswered, LeavesAs, LeavesFault, LinesLeave, PrintsPart, PrintsSome, ResultLeaves, SavesLike, SavingLeaves, ScriptAnswers, ScriptLeaves}
 use Rattle.fits_cli.specs.Output.{saved_bytes}
 use Rattle.fits_cli.specs.Running.{FlushesAnswers}
 use Rattle.fits_cli.specs.declared.edited.Edited.{Edited}
@@ -137,12 +139,12 @@ saving_of old new Changed p = record { text = p.0; printed = p.1 }
 saving_of old new Write p = record { text = p.0; front = p.1 }
 
 -- or isn't passed on
-pub saving_unflushed : (bytes : List ℕ) (a b c : SinkState) (fault : Fault) → PrintsLike bytes a b → FlushFails b c fault → SavingLeaves a c fault
-saving_unflushed bytes a b c fault p failed = rw failed.0 (record { text = p.like; front = PrintsFront-unflushed a b c p.like p.written failed.1 })
+pub saving_unflushed : (Is : List ℕ → Type 0) (len : ℕ) (a b c : SinkState) (fault : Fault) → PrintsAs Is len a b → FlushFails b c fault → SavingLeaves a c fault
+saving_unflushed Is len a b c fault p failed = rw failed.0 (record { text = p.like; front = PrintsFront-unflushed a b c p.like p.written failed.1 })
 
 -- what is like a file is so once it is passed on
-pub like_flushed : (bytes : List ℕ) (a b c : SinkState) → PrintsLike bytes a b → Flushes b c → PrintsLike bytes a c
-like_flushed bytes a b c p flush = record { like = p.like; size = p.size; total = p.total; written = Prints-flushed a b c p.like p.written flush }
+pub like_flushed : (Is : List ℕ → Type 0) (len : ℕ) (a b c : SinkState) → PrintsAs Is len a b → Flushes b c → PrintsAs Is len a c
+like_flushed Is len a b c p flush = record { like = p.like; size = p.size; is = p.is; written = Prints-flushed a b c p.like p.written flush }
 
 -- a result that isn't saved whole
 pub result_saving : (whole : Bool) (check : Level) (out saved holds : SinkState) (fault : Fault) → SavingLeaves saved holds fault → ResultLeaves (Made whole check) out out saved holds fault
@@ -169,9 +171,13 @@ leaves_result saves script script' out mid out' saved holds WriteFailed answers 
 leaves_result saves script script' out mid out' saved holds (RereadFault why) answers flushed p =
     (subst (λ (s : SinkState). ScriptAnswers script script' out s) (sym p.0) answers, ap (λ (s : SinkState). s.unflushed) p.0 ∙ flushed, p.1)
 
+-- a result that was wanted is saved
+pub saves_made : (look : Look) (saves : Saves) (whole : Bool) (check : Level) (bytes : List ℕ) (saved holds : SinkState) → saves ≡ Made whole check → PrintsAs (HasTotalBy look bytes) (length bytes) saved holds × (holds.unflushed ≡ 0) → SavesLike look saves bytes saved holds
+saves_made look saves whole check bytes saved holds is p = rw is p
+
 -- or comes to its end
 pub leaves_answered : (terms : Terms) (script script' : SourceState) (out mid out' saved holds : SinkState) (now : Standing) (result : Result Edited Fault) → ScriptAnswers script script' out mid × (mid.unflushed ≡ 0)
-    → OnOk result (PrintsSome mid out') → OnOk result (mid.unflushed ≡ 0 → out'.unflushed ≡ 0) → IfOk result (EndLeaves terms.saves (saved_bytes terms now) saved holds) → IfErr result (ResultLeaves terms.saves mid out' saved holds)
+    → OnOk result (PrintsSome mid out') → OnOk result (mid.unflushed ≡ 0 → out'.unflushed ≡ 0) → IfOk result (EndLeaves (look_of terms) terms.saves (saved_bytes terms now) saved holds) → IfErr result (ResultLeaves terms.saves mid out' saved holds)
     → LeavesAs terms script script' out out' saved holds result
 leaves_answered terms script script' out mid out' saved holds now (Ok it) answers said flushed ends stops = record {
   answers = record { quiet = answers.0.quiet; said = some_more out mid out' answers.0.said said };

@@ -13,7 +13,6 @@ use Rattle.fits_tell.specs.PixelLines.{statistics_line, sums_line, values_line}
 use Rattle.fits_script.specs.declared.command.Command.{Command}
 use Rattle.fits_script.specs.declared.command.Command.TheVariants.{Nothing, Edit, Offsets, Get, Positions, Report, Statistics, Rectangle, Sums, Kept}
 use Rattle.fits_cli.specs.Answer.{asked, keeps_tables, kept_line, outcome_of, places_line, some_places, sums_asked, unless, CommandFails, Done, OutcomeNeedsMemory}
-use Rattle.fits_cli.specs.Running.{IsLike}
 use Rattle.fits_cli.specs.ValueLine.{value_line}
 use Rattle.fits_cli.proofs.RefusalLemmas.{CommandFails-by}
 
@@ -37,7 +36,7 @@ sums_guarded tables it (Err why) verdicts = refl
 sums_guarded tables it (Ok sum) verdicts = asked_guarded tables it (sums_line sum) verdicts
 
 -- an edit leaves the same file
-after_guarded : (tables : Bool) (it : Marked) (edit : SessionEdit) → marked_after (guarded tables it) edit ≡ guarded tables (marked_after it edit)
+pub after_guarded : (tables : Bool) (it : Marked) (edit : SessionEdit) → marked_after (guarded tables it) edit ≡ guarded tables (marked_after it edit)
 unfolding marked_after
 after_guarded tables it (Hdu h edit) = refl
 after_guarded tables it (NewImage at kind axes) = refl
@@ -90,7 +89,7 @@ free_needs tables it (Sums hdu) free needs = needs
 free_needs tables it (Kept hdu) free needs = needs
 
 -- a command that fails, and not by memory, has that refusal
-fails_refused : (it : Marked) (command : Command) (why : Refusal) → CommandFails it command why → (why ≡ Memory → ⊥) → outcome_of it command ≡ Err why
+pub fails_refused : (it : Marked) (command : Command) (why : Refusal) → CommandFails it command why → (why ≡ Memory → ⊥) → outcome_of it command ≡ Err why
 fails_refused it command Memory fails other = absurd (other refl)
 fails_refused it command NoHdu fails other = fails
 fails_refused it command NoCard fails other = fails
@@ -113,7 +112,3 @@ free_fails tables it command why free fails =
     CommandFails-by (guarded tables it) command why
     (λ memory. free_needs tables it command free (subst (CommandFails (guarded false it) command) memory fails))
     (λ other. free_outcome tables it command free ∙ ap (guarded_outcome tables) (fails_refused (guarded false it) command why fails other))
-
--- a file like another is like it where tables are kept
-pub guarded_like : (tables : Bool) (one other : Marked) → IsLike one other → IsLike (guarded tables one) (guarded tables other)
-guarded_like tables one other like = record { hdus = like.hdus; tail = like.tail; kept = like.kept; tables = refl }

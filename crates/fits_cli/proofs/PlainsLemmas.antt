@@ -2,7 +2,7 @@
 use Rattle.std.proofs.Common.{◌≡◌, ℕ, List, [], ◌∷◌, length, Bool, true, false, refl, ap, sym, ◌∙◌, inl, inr}
 use Rattle.std.specs.Prelude.{◌==◌, ◌||◌, nat_lt, if◌then◌else◌}
 use Rattle.fits_script.specs.Line.{reading_of}
-use Rattle.fits_cli.specs.Answer.{Standing, done_last, is_last_done, line_left, still_at, AtOne, PlainNeedsMemory, PlainWantsPixels}
+use Rattle.fits_cli.specs.Answer.{Standing, done_last, is_last_done, line_left, still_at, AtOne, PlainNeedsMemory, PlainWantsData}
 use Rattle.fits_cli.specs.Faults.{IsUnchanged}
 use Rattle.fits_cli.specs.Running.{Heard, LacksOne, StopsAs}
 use Rattle.fits_tell.specs.declared.fault.Fault.{Fault}
@@ -89,7 +89,7 @@ AtOne-so Is So f s (plain ∷ others) (inr later) = AtOne-so Is So f (still_at s
 
 -- one of plain lines has no answer
 pub StopsAs-one : (text : List ℕ) (s : Standing) (plains : List (List ℕ)) (held : Heard) (fault : Fault) → AtOne (LacksOne fault) s plains
-    → StopsAs text (AtOne PlainNeedsMemory s plains) (AtOne PlainWantsPixels s plains) held held fault
+    → StopsAs text (AtOne PlainNeedsMemory s plains) (AtOne PlainWantsData s plains) held held fault
 StopsAs-one text s plains held (Refused why) lacks = AtOne-so (LacksOne (Refused why)) ⊥ (λ s plain is. is) s plains lacks
 StopsAs-one text s plains held ScriptTooLong lacks = AtOne-so (LacksOne ScriptTooLong) ⊥ (λ s plain is. is) s plains lacks
 StopsAs-one text s plains held Memory lacks = (AtOne-weaker (LacksOne Memory) PlainNeedsMemory (λ s plain is. is) s plains lacks, refl)
@@ -97,5 +97,5 @@ StopsAs-one text s plains held ReadFailed lacks = AtOne-so (LacksOne ReadFailed)
 StopsAs-one text s plains held WriteFailed lacks = absurd (AtOne-so (LacksOne WriteFailed) ⊥ (λ s plain is. is) s plains lacks)
 StopsAs-one text s plains held (RereadFault why) lacks = (
   AtOne-so (LacksOne (RereadFault why)) (IsUnchanged why) (λ s plain is. is.0) s plains lacks,
-  (AtOne-weaker (LacksOne (RereadFault why)) PlainWantsPixels (λ s plain is. is.1) s plains lacks, refl),
+  (AtOne-weaker (LacksOne (RereadFault why)) PlainWantsData (λ s plain is. is.1) s plains lacks, refl),
 )

@@ -16,11 +16,6 @@ use Rattle.fits_cli.specs.declared.reports.Reports.{Reports as TwoReports}
 use Rattle.fits_cli.proofs.NewErrorLemmas.{more-new, more_counts, new-more, none_quiet}
 use Rattle.fits_cli.proofs.NewTableLemmas as tables
 
--- the first of the reports of a file
-pub problems_are : (it : TwoReports) (tables : Bool) (file : FileParts) → read_reports it ≡ reports_of tables file → it.problems.items ≡ report_of file
-unfolding reports_of
-problems_are it tables file is = ap (λ (r : Reports). r.problems) is
-
 -- a level that lists nothing has nothing new of tables
 none_listed : (before after report : List TableProblem) → filter (is_new_table Quiet before after) report ≡ []
 unfolding is_new_table

@@ -7,7 +7,7 @@ use Rattle.fits_extended.specs.Stands.{queries_for, standing_in, stands_for, wit
 use Rattle.fits_extended.specs.Words.{is_query_of_each, may_stand}
 use Rattle.fits_script.specs.Words.{after_next, after_word, first_word}
 use Rattle.fits_extended.specs.declared.unmet.Unmet.{Unmet}
-use Rattle.fits_cli.specs.Answer.{Meant, in_turn, of_each, of_none, Standing, meant_by, plains_for, queries_by, StandsForMemory, StandsForPixels, answer_of, answer_to, left_after, left_of, line_answer, line_left, line_stands, plain_answer, plain_left, AtOne, CommandWantsPixels, LineNeedsMemory, NeedsMemoryFor, PlainNeedsMemory, PlainWantsPixels, WantsPixels, WantsPixelsFor}
+use Rattle.fits_cli.specs.Answer.{Meant, in_turn, of_each, of_none, Standing, meant_by, plains_for, queries_by, StandsForData, StandsForMemory, answer_of, answer_to, left_after, left_of, line_answer, line_left, line_stands, plain_answer, plain_left, AtOne, CommandWantsData, LineNeedsMemory, NeedsMemoryFor, PlainNeedsMemory, PlainWantsData, WantsData, WantsDataFor}
 use Rattle.fits_script.specs.declared.limits.TheConstants.{LINE_LIMIT}
 use Rattle.fits_script.specs.Line.{reading_of}
 use Rattle.fits_script.specs.declared.line_reading.LineReading.TheVariants.{TooLong}
@@ -205,10 +205,10 @@ no_memory-long s line long (inr needs) =
     rw (reading_of-long line long) at one
 
 -- it wants no pixels
-no_pixels-long : (s : Standing) (line : List ℕ) → LINE_LIMIT < length line → WantsPixelsFor s line → ⊥
-unfolding WantsPixelsFor WantsPixels
+no_pixels-long : (s : Standing) (line : List ℕ) → LINE_LIMIT < length line → WantsDataFor s line → ⊥
+unfolding WantsDataFor WantsData
 no_pixels-long s line long wants =
-    let one : PlainWantsPixels s line = at_one PlainWantsPixels s line (rw (stands-long s line long) at wants) in
+    let one : PlainWantsData s line = at_one PlainWantsData s line (rw (stands-long s line long) at wants) in
     rw (reading_of-long line long) at one
 
 -- so what is kept of a line needs and wants, the line does
@@ -220,10 +220,10 @@ kept-so P line never p =
 LineStops-kept : (kept line : List ℕ) (before : Standing) (held holds : Heard) (fault : Fault) → kept ≡ kept_of line → LineStops kept before held holds fault → LineStops line before held holds fault
 LineStops-kept kept line before held holds fault is stops =
     let same : answer_to before kept ≡ answer_to before line = ap (answer_to before) is ∙ kept-same (answer_to before) (line_answer before TooLong) line (answer_to-long before) in
-    subst (λ text. StopsAs text (NeedsMemoryFor before line) (WantsPixelsFor before line) held holds fault) same
-    (StopsAs-weaker (answer_to before kept) (NeedsMemoryFor before kept) (WantsPixelsFor before kept) (NeedsMemoryFor before line) (WantsPixelsFor before line) held holds fault
+    subst (λ text. StopsAs text (NeedsMemoryFor before line) (WantsDataFor before line) held holds fault) same
+    (StopsAs-weaker (answer_to before kept) (NeedsMemoryFor before kept) (WantsDataFor before kept) (NeedsMemoryFor before line) (WantsDataFor before line) held holds fault
     (λ needs. kept-so (NeedsMemoryFor before) line (no_memory-long before) (subst (NeedsMemoryFor before) is needs))
-    (λ wants. kept-so (WantsPixelsFor before) line (no_pixels-long before) (subst (WantsPixelsFor before) is wants)) stops)
+    (λ wants. kept-so (WantsDataFor before) line (no_pixels-long before) (subst (WantsDataFor before) is wants)) stops)
 
 -- what data weren't had again for is no change
 unchanged_of : (why : LoadFault) → (why ≡ load.Changed → ⊥) → IsUnchanged (reread_of why)
@@ -232,9 +232,9 @@ unchanged_of load.Failed same e = cc
 unchanged_of load.Changed same e = same refl
 
 -- data that a line wants aren't had again
-pub lacks_pixels : (it : Marked) (line : List ℕ) (command : Command) (why : LoadFault) → Said command ≡ reading_of line → CommandWantsPixels it.file command → (why ≡ load.Changed → ⊥) → LacksReply it (reading_of line) (fault_of_load why)
-unfolding WantsPixels
-lacks_pixels it line command why is wants same = (unchanged_of why same, rw (← is) wants)
+pub lacks_data : (it : Marked) (line : List ℕ) (command : Command) (why : LoadFault) → Said command ≡ reading_of line → CommandWantsData it.file command → (why ≡ load.Changed → ⊥) → LacksReply it (reading_of line) (fault_of_load why)
+unfolding WantsData
+lacks_data it line command why is wants same = (unchanged_of why same, rw (← is) wants)
 
 -- a plain line that has no answer isn't answered
 pub PlainStops-reply : (line : List ℕ) (before : Standing) (held : Heard) (fault : Fault) → LacksReply before.marked (reading_of line) fault → PlainStops line before held held fault
@@ -259,18 +259,18 @@ AnswersLine-plain line plain before now held holds is one =
 
 -- what a line stands for isn't answered
 pub LineStops-stands : (line : List ℕ) (stands : Meant) (before : Standing) (held holds : Heard) (fault : Fault) → line_stands before line ≡ stands
-    → StopsAs (answer_of before stands) (StandsForMemory before stands) (StandsForPixels before stands) held holds fault → LineStops line before held holds fault
-unfolding answer_to NeedsMemoryFor WantsPixelsFor
+    → StopsAs (answer_of before stands) (StandsForMemory before stands) (StandsForData before stands) held holds fault → LineStops line before held holds fault
+unfolding answer_to NeedsMemoryFor WantsDataFor
 LineStops-stands line stands before held holds fault is stops =
-    rw is (StopsAs-weaker (answer_of before stands) (StandsForMemory before stands) (StandsForPixels before stands) _ _ held holds fault (λ needs. inr needs) (λ wants. wants) stops)
+    rw is (StopsAs-weaker (answer_of before stands) (StandsForMemory before stands) (StandsForData before stands) _ _ held holds fault (λ needs. inr needs) (λ wants. wants) stops)
 
 -- also where that is one plain line
 pub LineStops-plain : (line plain : List ℕ) (before : Standing) (held holds : Heard) (fault : Fault) → line_stands before line ≡ in_turn (plain ∷ []) → PlainStops plain before held holds fault → LineStops line before held holds fault
 LineStops-plain line plain before held holds fault is stops =
     LineStops-stands line (in_turn (plain ∷ [])) before held holds fault is
-    (subst (λ last. StopsAs (plain_answer last) (AtOne PlainNeedsMemory before (plain ∷ [])) (AtOne PlainWantsPixels before (plain ∷ [])) held holds fault) (sym (done_last-one before plain))
-    (StopsAs-weaker (line_answer before (reading_of plain)) (LineNeedsMemory before.marked (reading_of plain)) (WantsPixels before.marked (reading_of plain)) _ _ held holds fault
-    (λ needs. at_first PlainNeedsMemory before plain [] needs) (λ wants. at_first PlainWantsPixels before plain [] wants) stops))
+    (subst (λ last. StopsAs (plain_answer last) (AtOne PlainNeedsMemory before (plain ∷ [])) (AtOne PlainWantsData before (plain ∷ [])) held holds fault) (sym (done_last-one before plain))
+    (StopsAs-weaker (line_answer before (reading_of plain)) (LineNeedsMemory before.marked (reading_of plain)) (WantsData before.marked (reading_of plain)) _ _ held holds fault
+    (λ needs. at_first PlainNeedsMemory before plain [] needs) (λ wants. at_first PlainWantsData before plain [] wants) stops))
 
 -- a line stands for queries of each HDU
 pub meant_each : (s : Standing) (line : List ℕ) (queries : List (List ℕ)) → queries_by s line ≡ Some queries → line_stands s line ≡ of_each queries

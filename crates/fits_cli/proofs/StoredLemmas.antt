@@ -5,8 +5,8 @@ use Rattle.fits_stream.specs.Gave.{GaveAll}
 use Rattle.fits_stream.specs.Agree.{IsOf}
 use Rattle.fits_stream.specs.Stored.{ReadLogState}
 use Rattle.fits_stream.specs.Stream.{StaysQuiet}
-use Rattle.fits_session.specs.Away.{StoredStops}
-use Rattle.fits_passing.specs.File.{FileParts, file_bytes, IsFile}
+use Rattle.fits_passing.specs.Met.{StoredStops}
+use Rattle.fits_passing.specs.File.{FileParts, IsFileOf}
 use Rattle.fits_passing.specs.Opening.{HasOpenFault}
 use Rattle.fits_passing.specs.Reading.{GaveFault, ReadStops}
 use Rattle.fits_passing.specs.declared.open_fault.OpenFault.{OpenFault}
@@ -20,8 +20,8 @@ pub quiet_reads : (bytes : List ℕ) (old new : ReadLogState) → new.failures �
 quiet_reads bytes old new same = record { quiet = same; log = record { bytes = bytes; logs = tt } }
 
 -- the file that was opened is each that the reads may be of
-pub opened_of : (bytes : List ℕ) (old new : ReadLogState) (parts : FileParts) → IsFile parts → bytes ≡ file_bytes parts → GaveFile (stored_file bytes old) (stored_file bytes new) parts
-opened_of bytes old new parts opens is = record { told = is; gave = record { extra = []; logs = tt; over = tt }; is = opens }
+pub opened_of : (bytes : List ℕ) (old new : ReadLogState) (parts : FileParts) → IsFileOf bytes parts → GaveFile (stored_file bytes old) (stored_file bytes new) parts
+opened_of bytes old new parts opens = record { told = opens.front.joined; gave = record { extra = []; logs = tt; over = tt }; is = subst (λ (t : List ℕ). IsFileOf t parts) opens.front.joined opens }
 
 -- and so is one that isn't
 pub stops_of : (bytes : List ℕ) (old new : ReadLogState) (why : ReadFileFault) → IsOf bytes new → StoredStops old new why → ReadStops (stored_file bytes old) (stored_file bytes new) why

@@ -1,16 +1,18 @@
 -- What the lines of a script print and do (own).
-use Rattle.std.specs.Prelude.{◌≡◌, ◌<◌, ◌⊎◌, ◌&&◌, ℕ, ◌+◌, Bool, false, true, List, [], ◌∷◌, ◌++◌, ◌||◌, ◌==◌, codes, length, nat_lt, Option, Some, None, Result, Ok, Err, IsOk, IsOkAnd, if◌then◌else◌}
+use Rattle.std.specs.Prelude.{◌≡◌, ◌<◌, ◌⊎◌, ◌&&◌, ℕ, ◌+◌, Bool, false, true, List, [], ◌∷◌, ◌++◌, ◌||◌, ◌==◌, codes, length, nat_lt, Option, Some, None, All, Result, Ok, Err, IsOk, IsOkAnd, IsSome, if◌then◌else◌}
 use Rattle.std.specs.Fmt.{decimal}
 use Rattle.std.specs.List.{flat_map}
 use Rattle.fits_passing.specs.declared.verdicts.Verdicts.{Verdicts}
 use Rattle.fits_passing.specs.File.{FileParts, offsets_from}
 use Rattle.fits_session.specs.Marked.{Marked, is_free, is_stamped_after, kept_in, marked_after, marked_refusal, unmarked, vouched}
-use Rattle.fits_session.specs.Away.{EditWantsPixels}
+use Rattle.fits_session.specs.Away.{EditWantsData}
 use Rattle.fits_session.specs.Query.{datasum_in, kind_in, positions_in, rect_in, stats_in, value_in, verdicts_in}
 use Rattle.fits_passing.specs.Report.{report_of}
 use Rattle.fits_making.specs.Refusal.{refusal_text}
 use Rattle.fits_session.specs.Refusal.{EditNeedsMemory}
-use Rattle.fits_session.specs.Session.{HasPixels, HasStats, IsReadyFor, IsSoOf}
+use Rattle.fits_session.specs.Session.{absences_after, HasPixels, HasStats, IsReadyFor, IsSeen, IsSoOf}
+use Rattle.fits_session.specs.Edit.{hdu_of}
+use Rattle.fits_unit.specs.DataUnit.{Absence}
 use Rattle.fits_hdu.specs.State.{HduState}
 use Rattle.fits_passing.specs.declared.offsets.HduOffsets.{HduOffsets}
 use Rattle.fits_making.specs.declared.refusal.Refusal.{Refusal}
@@ -26,7 +28,7 @@ use Rattle.fits_script.specs.declared.line_reading.LineReading.{LineReading}
 use Rattle.fits_script.specs.declared.line_reading.LineReading.TheVariants.{TooLong, NoCommand, Said}
 use Rattle.fits_script.specs.declared.command.Command.{Command}
 use Rattle.fits_script.specs.declared.command.Command.TheVariants.{Nothing, Edit, Offsets, Get, Positions, Report, Statistics, Rectangle, Sums, Kept}
-use Rattle.fits_tell.specs.declared.level.Level.TheVariants.{All}
+use Rattle.fits_tell.specs.declared.level.Level.TheVariants as level
 use Rattle.fits_cli.specs.Terms.{is_whole}
 use Rattle.fits_cli.specs.declared.terms.Terms.{Terms}
 use Rattle.fits_tell.specs.Listing.{offsets_text}
@@ -87,7 +89,7 @@ outcome_of it (Edit edit) = unless (marked_refusal it edit) (record { text = [];
 outcome_of it Offsets = Ok (record { text = offset_lines 1 (offsets_from 0 it.file.hdus); left = it })
 outcome_of it (Get hdu name) = asked it (λ said. value_line said.0 said.1) (value_in it.file hdu name)
 outcome_of it (Positions hdu name) = asked it places_line (some_places (positions_in it.file hdu name))
-outcome_of it Report = Ok (record { text = report_text All [] (report_of it.file); left = it })
+outcome_of it Report = Ok (record { text = report_text level.All [] (report_of it.file); left = it })
 outcome_of it (Statistics hdu) = asked it statistics_line (stats_in it.file hdu)
 outcome_of it (Rectangle hdu lo hi) = asked it values_line (rect_in it.file hdu lo hi)
 outcome_of it (Sums hdu) = sums_asked it (datasum_in it.file hdu) (verdicts_in it.file hdu)
@@ -182,24 +184,34 @@ line_left standing TooLong = after_refused standing
 line_left standing (NoCommand misfit) = after_refused standing
 line_left standing (Said command) = after_outcome standing command (outcome_of standing.marked command)
 
--- a command may want data that had passed by: of an HDU that is there and an image, or, of a reshape, an array
-unfoldable pub CommandWantsPixels : FileParts → Command → Type 0
-CommandWantsPixels file (Edit edit) = EditWantsPixels file edit
-CommandWantsPixels file (Statistics hdu) = IsOk (kind_in file hdu)
-CommandWantsPixels file (Rectangle hdu lo hi) = IsOk (kind_in file hdu)
-CommandWantsPixels file command = ⊥
+-- a command may want data that aren't in memory: of an HDU that is there, and of pixels an image, or, of a reshape, an array; a report of
+-- all HDUs
+unfoldable pub CommandWantsData : FileParts → Command → Type 0
+CommandWantsData file (Edit edit) = EditWantsData file edit
+CommandWantsData file (Statistics hdu) = IsOk (kind_in file hdu)
+CommandWantsData file (Rectangle hdu lo hi) = IsOk (kind_in file hdu)
+CommandWantsData file (Sums hdu) = IsSome (hdu_of file hdu)
+CommandWantsData file Report = Unit {0}
+CommandWantsData file command = ⊥
 
 -- then they are in memory, or known
 unfoldable pub IsReady : Command → List HduState → Type 0
 IsReady (Edit edit) hdus = IsReadyFor edit hdus
 IsReady (Statistics hdu) hdus = IsSoOf HasStats hdu hdus
 IsReady (Rectangle hdu lo hi) hdus = IsSoOf HasPixels hdu hdus
+IsReady (Sums hdu) hdus = IsSoOf IsSeen hdu hdus
+IsReady Report hdus = All IsSeen hdus
 IsReady command hdus = Unit {0}
 
+-- where the data units lie after it that aren't in memory
+abbrev pub absences_left : Command → List (Option Absence) → List (Option Absence)
+absences_left (Edit edit) absences = absences_after edit absences
+absences_left command absences = absences
+
 -- a plain line may want them
-unfoldable pub WantsPixels : Marked → LineReading → Type 0
-WantsPixels it (Said command) = CommandWantsPixels it.file command
-WantsPixels it reading = ⊥
+unfoldable pub WantsData : Marked → LineReading → Type 0
+WantsData it (Said command) = CommandWantsData it.file command
+WantsData it reading = ⊥
 
 -- memory may run out at a plain line: in reading it, or on the way to its outcome
 unfoldable pub LineNeedsMemory : Marked → LineReading → Type 0
@@ -334,19 +346,19 @@ answer_to standing line = answer_of standing (line_stands standing line)
 unfoldable pub left_after : Standing → List ℕ → Standing
 left_after standing line = left_of standing (line_stands standing line)
 
--- a plain line may want pixels as things stand
-abbrev pub PlainWantsPixels : Standing → List ℕ → Type 0
-PlainWantsPixels standing plain = WantsPixels standing.marked (reading_of plain)
+-- a plain line may want data as things stand
+abbrev pub PlainWantsData : Standing → List ℕ → Type 0
+PlainWantsData standing plain = WantsData standing.marked (reading_of plain)
 
 -- what a line stands for may
-abbrev pub StandsForPixels : Standing → Meant → Type 0
-StandsForPixels standing (in_turn plains) = AtOne PlainWantsPixels standing plains
-StandsForPixels standing (of_each plains) = AtEach PlainWantsPixels (first_line plains) standing plains
-StandsForPixels standing (of_none why) = ⊥
+abbrev pub StandsForData : Standing → Meant → Type 0
+StandsForData standing (in_turn plains) = AtOne PlainWantsData standing plains
+StandsForData standing (of_each plains) = AtEach PlainWantsData (first_line plains) standing plains
+StandsForData standing (of_none why) = ⊥
 
 -- so may a line
-unfoldable pub WantsPixelsFor : Standing → List ℕ → Type 0
-WantsPixelsFor standing line = StandsForPixels standing (line_stands standing line)
+unfoldable pub WantsDataFor : Standing → List ℕ → Type 0
+WantsDataFor standing line = StandsForData standing (line_stands standing line)
 
 -- memory may run out at a plain line as things stand
 abbrev pub PlainNeedsMemory : Standing → List ℕ → Type 0

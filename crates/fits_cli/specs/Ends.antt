@@ -10,7 +10,7 @@ use Rattle.fits_stream.specs.Stream.{SourceState, SinkState, FailsOnce, Gains, I
 use Rattle.fits_passing.specs.File.{file_bytes, FileParts, IsFile}
 use Rattle.fits_passing.specs.Opening.{HasOpenFault}
 use Rattle.fits_passing.specs.declared.open_fault.OpenFault.{OpenFault}
-use Rattle.fits_cli.specs.Answer.{at_first_line, NeedsMemoryFor, Standing, WantsPixelsFor}
+use Rattle.fits_cli.specs.Answer.{at_first_line, NeedsMemoryFor, Standing, WantsDataFor}
 use Rattle.fits_tell.specs.Faults.{status_of_fault}
 use Rattle.fits_cli.specs.Faults.{IsUnchanged}
 use Rattle.fits_cli.specs.declared.limits.TheConstants.{SCRIPT_LIMIT}
@@ -223,9 +223,9 @@ pub record NewErrorsFail (old new : RunState) : Type 0 where
   pub lines : PrintsFront (new_lines (check_of old.terms.saves) end.before end.after) answered new.printed
 
 -- data that a line wants aren't had again
-pub record LacksPixels (old new : RunState) : Type 0 where
+pub record LacksWantedData (old new : RunState) : Type 0 where
   pub read : ReadsWell old new
-  pub at : StopsAtLine WantsPixelsFor old new
+  pub at : StopsAtLine WantsDataFor old new
 
 -- what stands before a fault that ends a run ahead of saving
 abbrev pub StopsBy : RunState → RunState → Fault → Type 0
@@ -234,7 +234,7 @@ StopsBy old new ScriptTooLong = IsTooLong old new
 StopsBy old new Memory = IsOutOfMemory old new ⊎ LacksReport old new
 StopsBy old new ReadFailed = FileFails old new ⊎ ScriptFails old new
 StopsBy old new WriteFailed = AnswersFail old new ⊎ NewErrorsFail old new
-StopsBy old new (RereadFault why) = (old.stored ≡ true) × IsUnchanged why × LacksPixels old new
+StopsBy old new (RereadFault why) = (old.stored ≡ true) × IsUnchanged why × LacksWantedData old new
 
 -- a write of the saved file failed: all answers are flushed, and a prefix of the file stands
 pub record SavingFails (old new : RunState) (saved holds : SinkState) : Type 0 where

@@ -1,9 +1,13 @@
 -- What stands at the end of a run, whatever the reads of its file gave (own).
-use Rattle.std.specs.Prelude.{◌≡◌, ◌⊎◌, ℕ, List, MatchOption, Result, Ok, Err}
-use Rattle.fits_unit.specs.Again.{PrintsLike}
+use Rattle.std.specs.Prelude.{◌≡◌, ◌⊎◌, ℕ, List, length, MatchOption, Result, Ok, Err}
+use Rattle.fits_sum.specs.Words.{word_total}
+use Rattle.fits_unit.specs.Again.{PrintsAs}
 use Rattle.fits_stream.specs.Stream.{SinkState, SourceState, FailsOnce, Prints, PrintsFront, StaysQuiet}
 use Rattle.fits_cli.specs.Answer.{Standing}
 use Rattle.fits_cli.specs.Output.{saved_bytes}
+use Rattle.fits_cli.specs.Terms.{look_of}
+use Rattle.fits_passing.specs.declared.look.Look.{Look}
+use Rattle.fits_passing.specs.declared.look.Look.TheVariants.{All as LookAll, Headers as LookHeaders}
 use Rattle.fits_cli.specs.declared.edited.Edited.{Edited}
 use Rattle.fits_cli.specs.declared.edited.Edited.TheVariants.{Done, KeptBack, Unsound}
 use Rattle.fits_tell.specs.declared.end.End.{End}
@@ -65,16 +69,21 @@ AnswersLeave script script' out out' WriteFailed = StaysQuiet script script' × 
 AnswersLeave script script' out out' (RereadFault why) = ScriptAnswers script script' out out' × (out'.unflushed ≡ 0)
 AnswersLeave script script' out out' (Refused why) = ⊥
 
--- as many bytes were saved as these are, with the same total, and flushed; or none are wanted
-abbrev pub SavesLike : Saves → List ℕ → SinkState → SinkState → Type 0
-SavesLike Nothing bytes saved holds = holds ≡ saved
-SavesLike (Made whole check) bytes saved holds = PrintsLike bytes saved holds × (holds.unflushed ≡ 0)
+-- bytes have the total of these, where all of a file was looked at
+abbrev pub HasTotalBy : Look → List ℕ → List ℕ → Type 0
+HasTotalBy LookAll bytes like = word_total like ≡ word_total bytes
+HasTotalBy LookHeaders bytes like = Unit {0}
+
+-- as many bytes were saved as these are, where all of the file was looked at with the same total, and flushed; or none are wanted
+abbrev pub SavesLike : Look → Saves → List ℕ → SinkState → SinkState → Type 0
+SavesLike look Nothing bytes saved holds = holds ≡ saved
+SavesLike look (Made whole check) bytes saved holds = PrintsAs (HasTotalBy look bytes) (length bytes) saved holds × (holds.unflushed ≡ 0)
 
 -- so it is where nothing keeps the result back
-abbrev pub EndLeaves : Saves → List ℕ → SinkState → SinkState → Edited → Type 0
-EndLeaves saves bytes saved holds (Done status) = SavesLike saves bytes saved holds
-EndLeaves saves bytes saved holds (KeptBack undone) = holds ≡ saved
-EndLeaves saves bytes saved holds (Unsound errors warnings) = holds ≡ saved
+abbrev pub EndLeaves : Look → Saves → List ℕ → SinkState → SinkState → Edited → Type 0
+EndLeaves look saves bytes saved holds (Done status) = SavesLike look saves bytes saved holds
+EndLeaves look saves bytes saved holds (KeptBack undone) = holds ≡ saved
+EndLeaves look saves bytes saved holds (Unsound errors warnings) = holds ≡ saved
 
 -- a prefix of the result was saved, and one call failed; none is where none is wanted
 abbrev pub SavesPart : Saves → SinkState → SinkState → Type 0
@@ -94,7 +103,7 @@ pub record LeavesEnd (terms : Terms) (script script' : SourceState) (out out' sa
   pub answers : ScriptAnswers script script' out out'
   pub flushed : out'.unflushed ≡ 0
   pub now : Standing
-  pub result : EndLeaves terms.saves (saved_bytes terms now) saved holds it
+  pub result : EndLeaves (look_of terms) terms.saves (saved_bytes terms now) saved holds it
 
 -- a fault ended it: nothing is saved before the answers are flushed, and a call failed exactly where it is said so
 abbrev pub LeavesFault : Saves → SourceState → SourceState → SinkState → SinkState → SinkState → SinkState → Fault → Type 0

@@ -1,14 +1,17 @@
 -- What private functions of a run keep to: how far a script has come.
-use Rattle.std.specs.Prelude.{◌≡◌, ◌⊎◌, ℕ, Bool, false, ◌+◌, ◌<◌, ◌≤◌, List, [], ◌∷◌, ◌++◌, length, take, Option, Result, Ok, Err}
+use Rattle.std.specs.Prelude.{◌≡◌, ◌⊎◌, ℕ, Bool, false, ◌+◌, ◌<◌, ◌≤◌, List, [], ◌∷◌, ◌++◌, length, take, All, Option, Result, Ok, Err}
 use Rattle.fits_stream.specs.Intake.{Tells}
-use Rattle.fits_stream.specs.Agree.{Agrees, IsOf}
+use Rattle.fits_stream.specs.Agree.{IsOf}
 use Rattle.fits_stream.specs.Stored.{ReadLogState}
 use Rattle.fits_passing.specs.Hdu.{HduParts}
-use Rattle.fits_hdu.specs.State.{HduState}
+use Rattle.fits_hdu.specs.State.{HduState, IsSeen}
 use Rattle.fits_sum.specs.Words.{word_total}
 use Rattle.fits_session.specs.Away.{AllLie}
+use Rattle.fits_session.specs.Session.{kept_of as kept_hdus, marked_of, session_at, SessionState}
+use Rattle.fits_passing.specs.declared.look.Look.{Look}
+use Rattle.fits_passing.specs.declared.look.Look.TheVariants.{All as LookAll}
 use Rattle.fits_passing.specs.File.{FileParts}
-use Rattle.fits_cli.specs.Answer.{Meant, Standing, answer_of, answer_to, at_first_line, first_line, left_after, left_of, line_answer, line_left, AtEach, LineNeedsMemory, NeedsMemoryFor, PlainWantsPixels, StandsForMemory, StandsForPixels, WantsPixels, WantsPixelsFor}
+use Rattle.fits_cli.specs.Answer.{Meant, Standing, answer_of, answer_to, at_first_line, first_line, left_after, left_of, line_answer, line_left, AtEach, LineNeedsMemory, NeedsMemoryFor, PlainWantsData, StandsForData, StandsForMemory, WantsData, WantsDataFor}
 use Rattle.fits_cli.specs.Ends.{run_by, CameTo, GaveFile, HasLines, IsQuiet, OverFile, RunState}
 use Rattle.fits_script.specs.declared.limits.TheConstants.{LINE_LIMIT}
 use Rattle.fits_cli.specs.declared.limits.TheConstants.{SCRIPT_LIMIT}
@@ -25,49 +28,77 @@ use Rattle.fits_cli.specs.Faults.{IsUnchanged}
 use Rattle.fits_cli.specs.Terms.{check_of}
 use Rattle.fits_tell.specs.declared.level.Level.TheVariants.{Quiet}
 use Rattle.fits_cli.specs.Reports.{reports_of, Reports}
-use Rattle.fits_session.specs.Marked.{Marked}
+use Rattle.fits_session.specs.Marked.{guarded, Marked}
 use Rattle.fits_script.specs.declared.line_reading.LineReading.{LineReading}
 
--- a file under its script: how far it has come, and what the reads of its file gave
+-- a file under its script: how far it has come, how much of it was looked at, and what its reads gave
 pub record Progress : Type 0 where
-  pub standing : Standing
+  pub session : SessionState
+  pub tables : Bool
+  pub line : ℕ
+  pub refused : ℕ
+  pub edited : Bool
+  pub whole : Bool
+  pub extended : Bool
+  pub look : Look
   pub log : ReadLogState
 
--- of the lines before this one some were refused at most, and the data units lie in each file that the reads may be of
-pub record IsUnderWay (hdus : List HduState) (log : ReadLogState) (line refused : ℕ) : Type 0 where
+-- of the lines before this one some were refused at most; the data units lie in each file that the reads may be of, and where all was
+-- looked at they are known
+pub record IsUnderWay (hdus : List HduState) (look : Look) (log : ReadLogState) (line refused : ℕ) : Type 0 where
   pub few : refused < line
-  pub lie : (bytes : List ℕ) → IsOf bytes log → AllLie bytes hdus
+  pub lie : (told : List ℕ) → IsOf told log → AllLie told hdus
+  pub seen : look ≡ LookAll → All IsSeen hdus
 
--- where data are read again from a file its reads agree
-abbrev pub Steady : Bool → ReadLogState → Type 0
-Steady whole log = whole ≡ false → Agrees log
+-- these bytes may have given all the reads of a file; where all of it is in memory any are
+abbrev pub IsToldBy : Bool → List ℕ → ReadLogState → Type 0
+IsToldBy whole told log = whole ≡ false → IsOf told log
 
--- an HDU with these cards, whose data unit is as long and has the same total
-pub record IsLikeHdu (one other : HduParts) : Type 0 where
-  pub header : other.header ≡ one.header
-  pub size : length other.data_unit ≡ length one.data_unit
-  pub total : word_total other.data_unit ≡ word_total one.data_unit
+-- an HDU with these cards, whose data unit is as long and, where that was known, has the same total
+pub record IsLikeHdu (one : HduState) (other : HduParts) : Type 0 where
+  pub header : other.header ≡ one.header.header
+  pub size : length other.data_unit ≡ length one.plane.bytes
+  pub total : IsSeen one → word_total other.data_unit ≡ word_total one.plane.bytes
 
 -- one by one
-abbrev pub AreLike : List HduParts → List HduParts → Type 0
+abbrev pub AreLike : List HduState → List HduParts → Type 0
 AreLike [] [] = Unit {0}
 AreLike [] (other ∷ others) = ⊥
 AreLike (one ∷ hdus) [] = ⊥
 AreLike (one ∷ hdus) (other ∷ others) = IsLikeHdu one other × AreLike hdus others
 
--- a file like this one, with the same marks: all that a file may be whose data were read again
-pub record IsLike (one other : Marked) : Type 0 where
-  pub hdus : AreLike one.file.hdus other.file.hdus
-  pub tail : other.file.tail ≡ one.file.tail
-  pub kept : other.kept ≡ one.kept
-  pub tables : other.tables ≡ one.tables
+-- a file like that of a session, with the same marks: all that a file may be whose data were read
+pub record IsLike (one : SessionState) (other : Marked) : Type 0 where
+  pub hdus : AreLike one.hdus other.file.hdus
+  pub tail : other.file.tail ≡ one.tail
+  pub kept : other.kept ≡ kept_hdus one.hdus
+
+-- how things stand over another file
+abbrev pub standing_over : Progress → Marked → Standing
+standing_over it had = record {
+  marked = had;
+  line = it.line;
+  refused = it.refused;
+  edited = it.edited;
+  whole = it.whole;
+  extended = it.extended;
+}
+
+-- a file with marks, whose tables are kept as those of this one
+abbrev pub guarded_by : Progress → SessionState → Marked
+guarded_by it session = guarded it.tables (marked_of session)
+
+-- how things stand where the file has these bytes, in which those data units lie that aren't in memory
+abbrev pub standing_at : List ℕ → Progress → Standing
+standing_at told it = standing_over it (guarded_by it (session_at told it.session))
 
 -- a line is answered, and things stand as after it, over a file like the one that stands
-pub record RepliesLike (before now : Standing) (reading : LineReading) (text : List ℕ) : Type 0 where
+pub record RepliesLike (before now : Progress) (reading : LineReading) (text : List ℕ) : Type 0 where
   pub had : Marked
-  pub like : IsLike before.marked had
-  pub text_is : text ≡ line_answer (record before { marked = had }) reading
-  pub left : now ≡ line_left (record before { marked = had }) reading
+  pub like : IsLike before.session had
+  pub tables : had.tables ≡ before.tables
+  pub text_is : text ≡ line_answer (standing_over before had) reading
+  pub left : standing_over now (guarded_by now now.session) ≡ line_left (standing_over before had) reading
 
 -- what hears of the lines: the sink of their answers, and that of remarks on them, if there is one
 pub record Heard : Type 0 where
@@ -120,16 +151,16 @@ StopsAs text needs wants held holds (RereadFault why) = IsUnchanged why × (want
 -- so it is with what a line stands for
 abbrev pub MeantStops : Meant → Standing → Heard → Heard → Fault → Type 0
 MeantStops meant before held holds fault =
-    StopsAs (answer_of before meant) (StandsForMemory before meant) (StandsForPixels before meant) held holds fault
+    StopsAs (answer_of before meant) (StandsForMemory before meant) (StandsForData before meant) held holds fault
 
 -- and with a line
 abbrev pub LineStops : List ℕ → Standing → Heard → Heard → Fault → Type 0
-LineStops line before held holds fault = StopsAs (answer_to before line) (NeedsMemoryFor before line) (WantsPixelsFor before line) held holds fault
+LineStops line before held holds fault = StopsAs (answer_to before line) (NeedsMemoryFor before line) (WantsDataFor before line) held holds fault
 
 -- and with a plain one
 abbrev pub PlainStops : List ℕ → Standing → Heard → Heard → Fault → Type 0
 PlainStops line before held holds fault =
-    StopsAs (line_answer before (reading_of line)) (LineNeedsMemory before.marked (reading_of line)) (WantsPixels before.marked (reading_of line)) held holds fault
+    StopsAs (line_answer before (reading_of line)) (LineNeedsMemory before.marked (reading_of line)) (WantsData before.marked (reading_of line)) held holds fault
 
 -- a plain line has no answer: memory was refused at it, or data that it wants aren't had again
 abbrev pub LacksReply : Marked → LineReading → Fault → Type 0
@@ -138,7 +169,7 @@ LacksReply it reading ScriptTooLong = ⊥
 LacksReply it reading Memory = LineNeedsMemory it reading
 LacksReply it reading ReadFailed = ⊥
 LacksReply it reading WriteFailed = ⊥
-LacksReply it reading (RereadFault why) = IsUnchanged why × WantsPixels it reading
+LacksReply it reading (RereadFault why) = IsUnchanged why × WantsData it reading
 
 -- so it is at one of plain lines, each in its turn
 abbrev pub LacksOne : Fault → Standing → List ℕ → Type 0
@@ -151,7 +182,7 @@ LacksEach before plains ScriptTooLong = ⊥
 LacksEach before plains Memory = Unit {0}
 LacksEach before plains ReadFailed = ⊥
 LacksEach before plains WriteFailed = ⊥
-LacksEach before plains (RereadFault why) = IsUnchanged why × AtEach PlainWantsPixels (first_line plains) before plains
+LacksEach before plains (RereadFault why) = IsUnchanged why × AtEach PlainWantsData (first_line plains) before plains
 
 -- these lines are answered, and things stand as after them
 pub record AnswersLines (lines : List (List ℕ)) (before now : Standing) (held holds : Heard) : Type 0 where
@@ -178,7 +209,7 @@ LinesStop lines before held holds ScriptTooLong = ⊥
 LinesStop lines before held holds Memory = NeedsMemoryAt lines before held holds
 LinesStop lines before held holds ReadFailed = ⊥
 LinesStop lines before held holds WriteFailed = SaysFront lines before held holds
-LinesStop lines before held holds (RereadFault why) = IsUnchanged why × StopsAt WantsPixelsFor lines before held holds
+LinesStop lines before held holds (RereadFault why) = IsUnchanged why × StopsAt WantsDataFor lines before held holds
 
 -- of a line that may go on as much is kept as decides what it comes to
 unfoldable pub kept_of : List ℕ → List ℕ
@@ -269,12 +300,12 @@ pub record ScriptWriteFails (old new : SourceState) (before : Standing) (held ho
   pub front : SaysFront lines before held holds
 
 -- data that a line wants aren't had again
-pub record ScriptLacksPixels (old new : SourceState) (before : Standing) (held holds : Heard) (why : Reread) : Type 0 where
+pub record ScriptLacksData (old new : SourceState) (before : Standing) (held holds : Heard) (why : Reread) : Type 0 where
   pub unchanged : IsUnchanged why
   pub quiet : StaysQuiet old new
   pub lines : List (List ℕ)
   pub reached : HasLines old new lines
-  pub at : StopsAt WantsPixelsFor lines before held holds
+  pub at : StopsAt WantsDataFor lines before held holds
 
 -- why a script isn't answered to its end
 abbrev pub ScriptStops : SourceState → SourceState → Standing → Heard → Heard → Fault → Type 0
@@ -283,7 +314,7 @@ ScriptStops old new before held holds ScriptTooLong = AnswersTooLong old new bef
 ScriptStops old new before held holds Memory = ScriptNeedsMemory old new before held holds
 ScriptStops old new before held holds ReadFailed = ScriptReadFails old new before held holds
 ScriptStops old new before held holds WriteFailed = ScriptWriteFails old new before held holds
-ScriptStops old new before held holds (RereadFault why) = ScriptLacksPixels old new before held holds why
+ScriptStops old new before held holds (RereadFault why) = ScriptLacksData old new before held holds why
 
 -- then the answers are flushed, or that call fails and is the fault
 abbrev pub FlushesThen : {T : Type 0} → Result T Fault → Result T Fault → SinkState → SinkState → Type 0

@@ -1,5 +1,7 @@
 -- The terms of a run that edits (own).
 use Rattle.std.specs.Prelude.{ℕ, ◌&&◌, nat_lt, Bool, false}
+use Rattle.fits_passing.specs.declared.look.Look.{Look}
+use Rattle.fits_passing.specs.declared.look.Look.TheVariants.{All, Headers}
 use Rattle.fits_tell.specs.declared.level.Level.{Level}
 use Rattle.fits_tell.specs.declared.level.Level.TheVariants.{Quiet}
 use Rattle.fits_cli.specs.declared.manner.Manner.{Manner}
@@ -28,3 +30,11 @@ plain = record { sums = false; extended = false; tables = false; spare = false; 
 -- the terms of a run that saves nothing
 abbrev pub asking : Manner → Terms
 asking manner = record { sums = false; extended = manner.extended; tables = manner.tables; spare = false; saves = Nothing }
+
+-- how much of a stored file is looked at as it is opened: all of it where sums are kept right or problems count, else its headers
+abbrev pub look_by : Bool → Level → Look
+look_by false Quiet = Headers
+look_by sums check = All
+
+abbrev pub look_of : Terms → Look
+look_of terms = look_by terms.sums (check_of terms.saves)

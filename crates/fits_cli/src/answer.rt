@@ -1,10 +1,10 @@
 //! What a command makes of a file, and what it prints.
-ghost use Rattle.std.specs.Prelude.{◌≡◌, ◌++◌, true, IfOk, IfErr, OnOk, OnErr, Ok};
-ghost use Rattle.fits_session.specs.Away.{LieStill};
-ghost use Rattle.fits_session.specs.Session.{marked_of};
+ghost use Rattle.std.specs.Prelude.{◌≡◌, ◌++◌, ℕ, List, true, IfOk, IfErr, OnOk, OnErr, Ok};
+ghost use Rattle.fits_session.specs.Away.{AllLie, LieStill};
+ghost use Rattle.fits_session.specs.Session.{absences_of, marked_of, session_at};
 ghost use Rattle.fits_cli.specs.Answer.{offset_line, offset_lines};
 ghost use Rattle.fits_session.specs.Marked.{guarded};
-ghost use Rattle.fits_cli.specs.Answer.{is_edit, keeps_tables, outcome_of, CommandFails, IsReady};
+ghost use Rattle.fits_cli.specs.Answer.{absences_left, is_edit, keeps_tables, outcome_of, CommandFails, IsReady};
 
 use crate::kept_line::kept;
 use crate::pixel_answers::{rectangle, statistics, sums};
@@ -29,8 +29,20 @@ pub fn answer<H: Holder + Drop>(
     ensures err { IfErr result (CommandFails (guarded tables (marked_of session.old)) command) }
     ensures kept { OnErr result (marked_of session.new ≡ marked_of session.old) }
     ensures stays { LieStill session.old.hdus session.new.hdus }
+    ensures absences { OnOk result (absences_of session.new.hdus
+        ≡ absences_left command (absences_of session.old.hdus)) }
+    ensures away { OnErr result (absences_of session.new.hdus ≡ absences_of session.old.hdus) }
+
+    // So it is over each file that the data units may lie in.
+    ensures over { (told : List ℕ) → AllLie told session.old.hdus → IfOk result (λ text.
+        outcome_of (guarded tables (marked_of (session_at told session.old))) command
+        ≡ Ok (record { text = text.items; left = guarded tables (marked_of (session_at told session.new)) })) }
+    ensures fails { (told : List ℕ) → AllLie told session.old.hdus → IfErr result
+        (CommandFails (guarded tables (marked_of (session_at told session.old))) command) }
 {
+    session.is_sound();
     test_columns(session, tables, &command)?;
+    session.is_sound();
     obey(alloc, session, command)
 }
 
@@ -46,6 +58,7 @@ fn test_columns<H: Holder + Drop>(
     ensures same { marked_of session.new ≡ marked_of session.old }
     ensures ready { IsReady command.now session.old.hdus → IsReady command.now session.new.hdus }
     ensures stays { LieStill session.old.hdus session.new.hdus }
+    ensures absences { absences_of session.new.hdus ≡ absences_of session.old.hdus }
 {
     match command {
         Command::Edit(edit) => session.test_columns(tables, edit),
@@ -66,6 +79,9 @@ fn obey<H: Holder + Drop>(
     ensures err { IfErr result (CommandFails (marked_of session.old) command) }
     ensures kept { OnErr result (marked_of session.new ≡ marked_of session.old) }
     ensures stays { LieStill session.old.hdus session.new.hdus }
+    ensures absences { OnOk result (absences_of session.new.hdus
+        ≡ absences_left command (absences_of session.old.hdus)) }
+    ensures away { OnErr result (absences_of session.new.hdus ≡ absences_of session.old.hdus) }
 {
     match command {
         Command::Nothing => Ok(Vec::new(alloc)),
@@ -83,7 +99,7 @@ fn obey<H: Holder + Drop>(
         }
         Command::Positions { hdu, name } => positions(alloc, session, hdu, &name),
         Command::Report => {
-            let report = session.report()?;
+            let report = session.known_report()?;
             Ok(report_text(alloc, &report)?)
         }
         Command::Statistics { hdu } => statistics(alloc, session, hdu),

@@ -1,18 +1,20 @@
 //! The run of a script over a file: a file, a script, answers, and what the script made of the file.
-ghost use Rattle.std.specs.Prelude.{◌≡◌, ℕ, List, false, true, not, AllPairs, IfOk, IfErr, OnErr, OnOk};
+ghost use Rattle.std.specs.Prelude.{◌≡◌, ℕ, List, false, true, not, All, AllPairs, IfOk, IfErr, OnErr, OnOk};
 ghost use Rattle.std.specs.Option.{option_map};
 ghost use Rattle.fits_stream.specs.Agree.{IsOf};
 ghost use Rattle.fits_unit.specs.Again.{Follows};
 ghost use Rattle.fits_session.specs.Away.{AllLie};
 ghost use Rattle.fits_session.specs.Marked.{unmarked};
 ghost use Rattle.fits_passing.specs.Report.{IsListedBefore};
-ghost use Rattle.fits_session.specs.Session.{file_of, marked_of};
+ghost use Rattle.fits_session.specs.Session.{file_of, marked_of, session_at, IsSeen};
+ghost use Rattle.fits_passing.specs.declared.look.Look.TheVariants.{All as LookAll};
+ghost use Rattle.fits_cli.specs.Terms.{look_of};
 ghost use Rattle.fits_cli.specs.Faults.{FaultCounts, RunCounts};
 ghost use Rattle.fits_cli.specs.Frame.{AnswersLeave, EndLeaves, LeavesAs, PrintsSome, ResultLeaves, ScriptAnswers};
 ghost use Rattle.fits_cli.specs.Output.{saved_bytes};
 ghost use Rattle.fits_cli.specs.Ends.{run, run_by, AreToldOf, EndsAs, EndsBy, OverFile, OverReads, RemarksBy, StopsBy};
 ghost use Rattle.fits_cli.specs.Reports.{read_reports};
-ghost use Rattle.fits_cli.specs.Running.{FlushesAnswers, IsAnsweredRun, OverAnswered, OverFirst, Steady};
+ghost use Rattle.fits_cli.specs.Running.{guarded_by, standing_at, standing_over, FlushesAnswers, IsAnsweredRun, IsToldBy, OverAnswered, OverFirst};
 
 use crate::edited::{Edited, end_of};
 use crate::remarking::Silence;
@@ -65,23 +67,27 @@ pub fn run_edit_told<F: Source, S: Source, P: Sink, O: Sink, E: Sink>(
         (option_map E.state told.old) (option_map E.state told.new) result }
 {
     match Session::read(alloc, file) {
-        Ok(session) => edit(
-            alloc,
-            terms,
-            session,
-            &mut ReadLog::none(),
-            script,
-            saved,
-            out,
-            told,
-        ),
+        Ok(session) => {
+            session.is_sound();
+            edit(
+                alloc,
+                terms,
+                session,
+                &mut ReadLog::none(),
+                script,
+                saved,
+                out,
+                told,
+            )
+        }
         Err(why) => Err(Fault::from(why)),
     }
 }
 
-/// The same of a stored file, in which its data stay until a line wants them. They are read again
-/// then, or where they are copied as it is saved: where they have changed meanwhile, or aren't had,
-/// the run ends by `Fault::Reread`, and nothing more is saved.
+/// The same of a stored file, in which its data stay until a line wants them. They are read
+/// then, or where they are copied as it is saved: where they aren't had, or what was known of them has
+/// changed meanwhile, the run ends by `Fault::Reread`, and nothing more is saved. Data units larger
+/// than a piece aren't looked at before, unless the terms want it.
 ///
 /// What it ends with goes by what the reads of the file gave, which the log has: where they may have
 /// been of some bytes the run is that of these bytes, whatever the file was before, between and after
@@ -110,7 +116,7 @@ pub fn run_edit_stored<F: Stored, S: Source, P: Sink, O: Sink, E: Sink>(
         (O.state out.old) (O.state out.new) (P.state saved.old) (P.state saved.new) result }
     ensures follows { Follows log.old log.new }
 {
-    match Session::read_stored(alloc, file, log) {
+    match Session::read_stored(alloc, terms.look(), file, log) {
         Ok(session) => edit(alloc, terms, session, log, script, saved, out, told),
         Err(why) => Err(Fault::from(why)),
     }
@@ -129,11 +135,14 @@ fn edit<H: Holder + Drop, S: Source, P: Sink, O: Sink, E: Sink>(
 ) -> Result<Edited, Fault>
     requires unmarked { marked_of session ≡ unmarked (file_of session) }
     requires lie { (bytes : List ℕ) → IsOf bytes log.old → AllLie bytes session.hdus }
-    ensures ends { Steady H.whole log.new → OverFile (not H.whole) (file_of session) (λ file after. EndsBy
+    requires seen { look_of terms ≡ LookAll → All IsSeen session.hdus }
+    ensures ends { (bytes : List ℕ) → IsToldBy H.whole bytes log.new
+        → OverFile (not H.whole) (file_of (session_at bytes session)) (λ file after. EndsBy
         (run_by terms (not H.whole) file (S.state script.old) (O.state out.old))
         (run_by terms (not H.whole) after (S.state script.new) (O.state out.new))
         (P.state saved.old) (P.state saved.new) result) }
-    ensures told { Steady H.whole log.new → OverFile (not H.whole) (file_of session) (λ file after. RemarksBy terms file after
+    ensures told { (bytes : List ℕ) → IsToldBy H.whole bytes log.new
+        → OverFile (not H.whole) (file_of (session_at bytes session)) (λ file after. RemarksBy terms file after
         (S.state script.old) (S.state script.new)
         (option_map E.state told.old) (option_map E.state told.new) result) }
     ensures quiet { OnOk result (log.new.failures ≡ log.old.failures) }
@@ -159,12 +168,13 @@ fn run<H: Holder + Drop, S: Source, P: Sink, O: Sink, E: Sink>(
     out: &mut O,
     told: &mut Option<E>,
 ) -> Result<Edited, Fault>
-    requires { runner.old.standing.line ≡ 1 }
-    ensures ends { Steady H.whole runner.new.log → OverFirst (not H.whole) terms runner.old.standing (λ file after. EndsBy
+    requires line { runner.old.line ≡ 1 }
+    requires look { runner.old.look ≡ look_of terms }
+    ensures ends { (bytes : List ℕ) → IsToldBy H.whole bytes runner.new.log → OverFirst (not H.whole) terms (standing_at bytes runner.old) (λ file after. EndsBy
         (run_by terms (not H.whole) file (S.state script.old) (O.state out.old))
         (run_by terms (not H.whole) after (S.state script.new) (O.state out.new))
         (P.state saved.old) (P.state saved.new) result) }
-    ensures told { Steady H.whole runner.new.log → OverFirst (not H.whole) terms runner.old.standing (λ file after. RemarksBy
+    ensures told { (bytes : List ℕ) → IsToldBy H.whole bytes runner.new.log → OverFirst (not H.whole) terms (standing_at bytes runner.old) (λ file after. RemarksBy
         terms file after (S.state script.old) (S.state script.new)
         (option_map E.state told.old) (option_map E.state told.new) result) }
     ensures quiet { OnOk result (runner.new.log.failures ≡ runner.old.log.failures) }
@@ -188,19 +198,20 @@ fn answered<H: Holder + Drop, S: Source, O: Sink, E: Sink>(
     out: &mut O,
     told: &mut Option<E>,
 ) -> Result<Reports, Fault>
-    requires { runner.old.standing.line ≡ 1 }
-    ensures ok { Steady H.whole runner.new.log → IfOk result (λ before. OverFirst (not H.whole) terms runner.old.standing
+    requires line { runner.old.line ≡ 1 }
+    requires look { runner.old.look ≡ look_of terms }
+    ensures ok { (bytes : List ℕ) → IsToldBy H.whole bytes runner.new.log → IfOk result (λ before. OverFirst (not H.whole) terms (standing_at bytes runner.old)
         (λ file after. IsAnsweredRun
         (run_by terms (not H.whole) file (S.state script.old) (O.state out.old))
         (run_by terms (not H.whole) after (S.state script.new) (O.state out.new))
         (option_map E.state told.old) (option_map E.state told.new)
-        runner.new.standing (read_reports before))) }
+        (standing_at bytes runner.new) (read_reports before))) }
     ensures ordered { IfOk result (λ before. AllPairs IsListedBefore before.problems.items) }
-    ensures err { Steady H.whole runner.new.log → IfErr result (λ fault. OverFirst (not H.whole) terms runner.old.standing
+    ensures err { (bytes : List ℕ) → IsToldBy H.whole bytes runner.new.log → IfErr result (λ fault. OverFirst (not H.whole) terms (standing_at bytes runner.old)
         (λ file after. StopsBy
         (run_by terms (not H.whole) file (S.state script.old) (O.state out.old))
         (run_by terms (not H.whole) after (S.state script.new) (O.state out.new)) fault)) }
-    ensures told { Steady H.whole runner.new.log → OnErr result (OverFirst (not H.whole) terms runner.old.standing
+    ensures told { (bytes : List ℕ) → IsToldBy H.whole bytes runner.new.log → OnErr result (OverFirst (not H.whole) terms (standing_at bytes runner.old)
         (λ file after. AreToldOf terms file after (S.state script.old) (S.state script.new)
         (option_map E.state told.old) (option_map E.state told.new))) }
     ensures quiet { OnOk result (runner.new.log.failures ≡ runner.old.log.failures) }
@@ -212,6 +223,7 @@ fn answered<H: Holder + Drop, S: Source, O: Sink, E: Sink>(
     ensures leaves { IfErr result (AnswersLeave (S.state script.old) (S.state script.new)
         (O.state out.old) (O.state out.new)) }
     ensures follows { Follows runner.old.log runner.new.log }
+    ensures look { runner.new.look ≡ runner.old.look }
 {
     let before = runner.report_for(alloc, terms.saves.check(), terms.tables)?;
     let answered = answer_script(alloc, runner, script, out, told);
@@ -248,16 +260,18 @@ fn save_result<H: Holder + Drop, P: Sink, O: Sink>(
     saved: &mut P,
     out: &mut O,
 ) -> Result<Edited, Fault>
-    requires { AllPairs IsListedBefore before.now.problems.items }
-    ensures ends { Steady H.whole runner.new.log → OverAnswered terms (not H.whole)
-        runner.old.standing (read_reports before.now) (O.state out.old) (O.state out.new)
+    requires ordered { AllPairs IsListedBefore before.now.problems.items }
+    requires look { runner.old.look ≡ look_of terms }
+    ensures ends { (bytes : List ℕ) → IsToldBy H.whole bytes runner.new.log → OverAnswered terms (not H.whole)
+        (standing_at bytes runner.old) (read_reports before.now) (O.state out.old) (O.state out.new)
         (λ old new. EndsBy old new (P.state saved.old) (P.state saved.new) result) }
     ensures quiet { OnOk result (runner.new.log.failures ≡ runner.old.log.failures) }
     ensures counted { IfErr result (FaultCounts runner.old.log.failures runner.new.log.failures) }
     ensures said { OnOk result (PrintsSome (O.state out.old) (O.state out.new)) }
     ensures flushed { OnOk result ((O.state out.old).unflushed ≡ 0
         → (O.state out.new).unflushed ≡ 0) }
-    ensures like { IfOk result (EndLeaves terms.saves (saved_bytes terms runner.new.standing)
+    ensures like { IfOk result (EndLeaves (look_of terms) terms.saves
+        (saved_bytes terms (standing_over runner.old (guarded_by runner.old runner.old.session)))
         (P.state saved.old) (P.state saved.new)) }
     ensures leaves { IfErr result (ResultLeaves terms.saves (O.state out.old) (O.state out.new)
         (P.state saved.old) (P.state saved.new)) }

@@ -1,7 +1,7 @@
 //! Whether an HDU is kept stamped.
 ghost use Rattle.std.specs.Prelude.{◌≡◌, IfOk, IfErr, OnErr, Ok};
 ghost use Rattle.fits_session.specs.Away.{LieStill};
-ghost use Rattle.fits_session.specs.Session.{marked_of};
+ghost use Rattle.fits_session.specs.Session.{absences_of, marked_of};
 ghost use Rattle.fits_cli.specs.Answer.{kept_line, outcome_of, CommandFails};
 ghost use Rattle.fits_script.specs.declared.command.Command.TheVariants.{Kept};
 
@@ -20,6 +20,7 @@ pub(crate) fn kept<H: Holder + Drop>(
     ensures err { IfErr result (CommandFails (marked_of session.old) (Kept hdu)) }
     ensures same { OnErr result (marked_of session.new ≡ marked_of session.old) }
     ensures stays { LieStill session.old.hdus session.new.hdus }
+    ensures absences { absences_of session.new.hdus ≡ absences_of session.old.hdus }
 {
     let kept = session.kept(hdu)?;
     Ok(kept_line(alloc, kept)?)

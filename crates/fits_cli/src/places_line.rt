@@ -1,7 +1,7 @@
 //! The places of a keyword: what `pos` prints.
 ghost use Rattle.std.specs.Prelude.{◌≡◌, ◌∷◌, IfOk, IfErr, OnErr, Ok};
 ghost use Rattle.fits_session.specs.Away.{LieStill};
-ghost use Rattle.fits_session.specs.Session.{marked_of};
+ghost use Rattle.fits_session.specs.Session.{absences_of, marked_of};
 ghost use Rattle.fits_cli.specs.Answer.{outcome_of, places_line, CommandFails};
 ghost use Rattle.fits_script.specs.declared.command.Command.TheVariants.{Positions};
 
@@ -23,6 +23,7 @@ pub(crate) fn positions<H: Holder + Drop>(
     ensures err { IfErr result (CommandFails (marked_of session.old) (Positions hdu name.now)) }
     ensures kept { OnErr result (marked_of session.new ≡ marked_of session.old) }
     ensures stays { LieStill session.old.hdus session.new.hdus }
+    ensures absences { absences_of session.new.hdus ≡ absences_of session.old.hdus }
 {
     let places = session.positions(hdu, name)?;
     let Some((first, more)) = places.split_first() else {

@@ -1,9 +1,9 @@
 //! A file and how far its script has come.
-ghost use Rattle.std.specs.Prelude.{◌≡◌};
+ghost use Rattle.std.specs.Prelude.{◌≡◌, true, All};
 ghost use Rattle.fits_cli.specs.Answer.{marked_first};
 ghost use Rattle.fits_session.specs.Away.{LieStill};
 ghost use Rattle.fits_session.specs.Marked.{guarded, unmarked};
-ghost use Rattle.fits_session.specs.Session.{file_of, marked_of};
+ghost use Rattle.fits_session.specs.Session.{absences_of, file_of, marked_of, IsSeen};
 
 use crate::answer::{answer, is_edit};
 use crate::new_errors::{NewErrors, errors_since};
@@ -16,6 +16,7 @@ use crate::saves::Saves;
 use crate::table_problems::table_problems;
 use crate::terms::Terms;
 use fits_extended::{Stands, Unmet, plain_line, queries_of_each};
+use fits_passing::Look;
 use fits_script::{LineReading, read_line};
 use fits_session::{Holder, Session};
 use fits_stream::{ReadLog, Sink};
@@ -31,6 +32,8 @@ pub(crate) struct Runner<H: Holder + Drop> {
     tables: bool,
     /// The reads of its file so far.
     log: ReadLog,
+    /// How much of its file was looked at as it was opened.
+    look: Look,
     /// The number of the line that comes, from 1.
     line: u64,
     /// How many lines so far were refused or bad.
@@ -45,34 +48,32 @@ pub(crate) struct Runner<H: Holder + Drop> {
 
 impl<H: Holder + Drop> Model for Runner<H> {
     ghost use Rattle.fits_cli.specs.Running.{IsUnderWay, Progress};
-    ghost use Rattle.fits_session.specs.Marked.{guarded};
-    ghost use Rattle.fits_session.specs.Session.{marked_of};
 
     ghost Value = { Progress };
 
     ghost view = { λ runner. record {
-      standing = record {
-        marked = guarded runner.tables (marked_of runner.session);
-        line = runner.line;
-        refused = runner.refused;
-        edited = runner.edited;
-        whole = runner.whole;
-        extended = runner.extended;
-      };
+      session = runner.session;
+      tables = runner.tables;
+      line = runner.line;
+      refused = runner.refused;
+      edited = runner.edited;
+      whole = runner.whole;
+      extended = runner.extended;
+      look = runner.look;
       log = runner.log;
     } };
 
-    ghost invariant = { λ runner. IsUnderWay runner.session.hdus runner.log
+    ghost invariant = { λ runner. IsUnderWay runner.session.hdus runner.look runner.log
         runner.line runner.refused };
 }
 
 impl<H: Holder + Drop> Runner<H> {
-    ghost use Rattle.std.specs.Prelude.{◌≡◌, ◌+◌, ◌^◌, ◌<◌, ◌&&◌, ℕ, List, ◌||◌, not, true, AllPairs, if◌then◌else◌, IfOk, IfErr, OnOk, OnErr};
+    ghost use Rattle.std.specs.Prelude.{◌≡◌, ◌+◌, ◌^◌, ◌<◌, ◌&&◌, ℕ, List, ◌||◌, not, true, length, All, AllPairs, if◌then◌else◌, IfOk, IfErr, OnOk, OnErr};
     ghost use Rattle.fits_stream.specs.Agree.{IsOf};
     ghost use Rattle.fits_stream.specs.Stream.{Prints};
-    ghost use Rattle.fits_unit.specs.Again.{Follows, PrintsLike};
+    ghost use Rattle.fits_unit.specs.Again.{Follows, PrintsAs};
     ghost use Rattle.fits_session.specs.Away.{AllLie};
-    ghost use Rattle.fits_cli.specs.Answer.{after_refused, after_reply, at_first_line, at_next, line_answer, line_left, plains_for, queries_by, LineNeedsMemory};
+    ghost use Rattle.fits_cli.specs.Answer.{at_first_line, line_answer, line_left, plains_for, queries_by, LineNeedsMemory};
     ghost use Rattle.fits_extended.specs.Stands.{lines_if, stood};
     ghost use Rattle.fits_extended.specs.Words.{may_stand};
     ghost use Rattle.fits_script.specs.Line.{reading_of};
@@ -80,28 +81,35 @@ impl<H: Holder + Drop> Runner<H> {
     ghost use Rattle.fits_cli.specs.Remark.{remark_by, remark_on};
     ghost use Rattle.fits_cli.specs.Reply.{counts_as_refused, reply_text};
     ghost use Rattle.fits_cli.specs.Faults.{FaultCounts, IsOnce, SaveFails};
-    ghost use Rattle.fits_cli.specs.Frame.{IsUnanswered, SavingLeaves};
-    ghost use Rattle.fits_cli.specs.Running.{LacksReply, RepliesLike, Steady};
+    ghost use Rattle.fits_cli.specs.Frame.{HasTotalBy, IsUnanswered, SavingLeaves};
+    ghost use Rattle.fits_cli.specs.Running.{guarded_by, standing_at, standing_over, IsToldBy, LacksReply, RepliesLike};
     ghost use Rattle.fits_cli.specs.Reports.{new_error_count, new_lines, new_warning_count, read_reports, reports_of};
-    ghost use Rattle.fits_cli.specs.Terms.{holds_back};
+    ghost use Rattle.fits_cli.specs.Terms.{holds_back, look_of};
+    ghost use Rattle.fits_passing.specs.declared.look.Look.TheVariants.{All as LookAll};
     ghost use Rattle.fits_tell.specs.declared.level.Level.TheVariants.{Quiet};
     ghost use Rattle.fits_session.specs.Marked.{unmarked};
     ghost use Rattle.fits_passing.specs.Report.{IsListedBefore};
-    ghost use Rattle.fits_session.specs.Session.{file_of, marked_of};
+    ghost use Rattle.fits_session.specs.Session.{file_of, marked_of, session_at, IsSeen};
 
     /// Before the first line, on these terms: where right sums are kept right, each HDU is kept stamped
     /// whose sums vouch for it. The reads so far are those by which the file was opened.
     pub(crate) fn new(mut session: Session<H>, terms: Terms, log: ReadLog) -> Runner<H>
         requires unmarked { marked_of session ≡ unmarked (file_of session) }
-        requires lie { (bytes : List ℕ) → IsOf bytes log → AllLie bytes session.hdus }
-        ensures standing { result.standing ≡ at_first_line terms (file_of session) }
+        requires lie { (told : List ℕ) → IsOf told log → AllLie told session.hdus }
+        requires seen { look_of terms ≡ LookAll → All IsSeen session.hdus }
+        ensures standing { (told : List ℕ) → IsToldBy H.whole told log → standing_at told result
+            ≡ at_first_line terms (file_of (session_at told session)) }
+        ensures line { result.line ≡ 1 }
+        ensures look { result.look ≡ look_of terms }
         ensures log { result.log ≡ log }
     {
+        session.is_sound();
         keep_first(&mut session, terms);
         Runner {
             session,
             tables: terms.tables,
             log,
+            look: terms.look(),
             line: 1,
             refused: 0,
             edited: false,
@@ -120,29 +128,29 @@ impl<H: Holder + Drop> Runner<H> {
 
     /// The number of the line that comes.
     pub(crate) fn line(&self) -> u64
-        ensures { result ≡ self.now.standing.line }
+        ensures { result ≡ self.now.line }
     {
         self.line
     }
 
     /// The status of a run whose script ended here: 1 where a line was refused or bad, else 0.
     pub(crate) fn status(&self) -> u8
-        ensures { result ≡ status_of self.now.standing }
+        ensures { (told : List ℕ) → result ≡ status_of (standing_at told self.now) }
     {
         if self.refused == 0 { 0 } else { 1 }
     }
 
     /// How many lines were refused or bad.
     pub(crate) fn refused(&self) -> u64
-        ensures value { result ≡ self.now.standing.refused }
-        ensures few { result < self.now.standing.line }
+        ensures value { result ≡ self.now.refused }
+        ensures few { result < self.now.line }
     {
         self.refused
     }
 
     /// Whether lines that weren't done keep the result from being saved, where every one is to be.
     pub(crate) fn is_held_back(&self, saves: Saves) -> bool
-        ensures { result ≡ holds_back saves self.now.standing.refused }
+        ensures { result ≡ holds_back saves self.now.refused }
     {
         saves.whole() && self.refused > 0
     }
@@ -153,8 +161,9 @@ impl<H: Holder + Drop> Runner<H> {
         alloc: Global,
         line: &[u8],
     ) -> Result<Option<Vec<Vec<u8>>>, AllocError>
-        ensures ok { IfOk result (λ it. lines_if it ≡ queries_by self.now.standing line.now) }
-        ensures err { OnErr result (self.now.standing.extended ≡ true) }
+        ensures ok { (told : List ℕ) → IfOk result (λ it. lines_if it
+            ≡ queries_by (standing_at told self.now) line.now) }
+        ensures err { OnErr result (self.now.extended ≡ true) }
         ensures may { OnErr result (may_stand line.now ≡ true) }
     {
         if !self.extended {
@@ -165,10 +174,14 @@ impl<H: Holder + Drop> Runner<H> {
 
     /// The plain lines that a line stands for as things stand, each in its turn.
     pub(crate) fn stands_for(&mut self, alloc: Global, line: &[u8]) -> Result<Stands, AllocError>
-        ensures ok { IfOk result (λ it. stood line.now it ≡ plains_for self.old.standing line.now) }
-        ensures err { OnErr result (self.old.standing.extended ≡ true) }
+        ensures ok { (told : List ℕ) → IfOk result (λ it. stood line.now it
+            ≡ plains_for (standing_at told self.old) line.now) }
+        ensures err { OnErr result (self.old.extended ≡ true) }
         ensures may { OnErr result (may_stand line.now ≡ true) }
-        ensures same { self.new ≡ self.old }
+        ensures standing { (told : List ℕ) → standing_at told self.new ≡ standing_at told self.old }
+        ensures line { self.new.line ≡ self.old.line }
+        ensures look { self.new.look ≡ self.old.look }
+        ensures log { self.new.log ≡ self.old.log }
     {
         if !self.extended {
             return Ok(Stands::Itself);
@@ -178,19 +191,17 @@ impl<H: Holder + Drop> Runner<H> {
 
     /// Goes on to the next line, after one that stands for no plain line.
     pub(crate) fn refuse<'a>(&mut self, why: Unmet) -> Reply<'a>
-        requires { self.old.standing.line + 1 < 2 ^ 64 }
+        requires { self.old.line + 1 < 2 ^ 64 }
         ensures reply { result ≡ Reply.Unmet why }
-        ensures left { self.new.standing ≡ after_refused self.old.standing }
-        ensures log { self.new.log ≡ self.old.log }
+        ensures left { self.new ≡ record self.old { line = self.old.line + 1; refused = self.old.refused + 1 } }
     {
         self.pass(Reply::Unmet(why), false)
     }
 
     /// Stays at a line of the script, after a plain one that it stands for.
     pub(crate) fn stay(&mut self, line: u64)
-        requires { self.old.standing.refused < line }
-        ensures left { self.new.standing ≡ record self.old.standing { line = line } }
-        ensures log { self.new.log ≡ self.old.log }
+        requires { self.old.refused < line }
+        ensures { self.new ≡ record self.old { line = line } }
     {
         self.line = line;
     }
@@ -199,8 +210,7 @@ impl<H: Holder + Drop> Runner<H> {
     /// doesn't count.
     pub(crate) fn hold(&mut self, line: u64, refused: u64)
         requires { refused < line }
-        ensures left { self.new.standing ≡ record self.old.standing { line = line; refused = refused } }
-        ensures log { self.new.log ≡ self.old.log }
+        ensures { self.new ≡ record self.old { line = line; refused = refused } }
     {
         self.line = line;
         self.refused = refused;
@@ -208,10 +218,9 @@ impl<H: Holder + Drop> Runner<H> {
 
     /// Goes on to the next line, after queries of several HDUs that came to this.
     pub(crate) fn go_on<'a>(&mut self, text: Vec<u8>) -> Reply<'a>
-        requires { self.old.standing.line + 1 < 2 ^ 64 }
+        requires { self.old.line + 1 < 2 ^ 64 }
         ensures reply { result ≡ Reply.Done text }
-        ensures left { self.new.standing ≡ at_next self.old.standing }
-        ensures log { self.new.log ≡ self.old.log }
+        ensures left { self.new ≡ record self.old { line = self.old.line + 1 } }
     {
         self.pass(Reply::Done(text), false)
     }
@@ -225,24 +234,26 @@ impl<H: Holder + Drop> Runner<H> {
         wanted: bool,
         line: &'a [u8],
     ) -> Result<Reply<'a>, Fault>
-        requires { self.old.standing.line + 1 < 2 ^ 64 }
-        ensures text { Steady H.whole self.new.log → IfOk result (λ reply.
-            reply_text self.old.standing.line reply ≡ line_answer self.old.standing (reading_of line.now)) }
-        ensures remark { Steady H.whole self.new.log → IfOk result (λ reply. wanted ≡ true → remark_by line.now reply
-            ≡ remark_on self.old.standing.marked line.now (reading_of line.now)) }
-        ensures left { Steady H.whole self.new.log → OnOk result
-            (self.new.standing ≡ line_left self.old.standing (reading_of line.now)) }
-        ensures like { IfOk result (λ reply. RepliesLike self.old.standing self.new.standing
-            (reading_of line.now) (reply_text self.old.standing.line reply)) }
-        ensures err { Steady H.whole self.new.log → IfErr result
-            (LacksReply self.old.standing.marked (reading_of line.now)) }
-        ensures counts { IfOk result (λ reply. self.new.standing.refused
-            ≡ self.old.standing.refused + (if counts_as_refused reply then 1 else 0)) }
+        requires { self.old.line + 1 < 2 ^ 64 }
+        ensures text { (told : List ℕ) → IsToldBy H.whole told self.new.log → IfOk result (λ reply.
+            reply_text self.old.line reply ≡ line_answer (standing_at told self.old) (reading_of line.now)) }
+        ensures remark { (told : List ℕ) → IsToldBy H.whole told self.new.log
+            → IfOk result (λ reply. wanted ≡ true → remark_by line.now reply
+            ≡ remark_on (standing_at told self.old).marked line.now (reading_of line.now)) }
+        ensures left { (told : List ℕ) → IsToldBy H.whole told self.new.log → OnOk result
+            (standing_at told self.new ≡ line_left (standing_at told self.old) (reading_of line.now)) }
+        ensures like { IfOk result (λ reply. RepliesLike self.old self.new
+            (reading_of line.now) (reply_text self.old.line reply)) }
+        ensures err { (told : List ℕ) → IsToldBy H.whole told self.new.log → IfErr result
+            (LacksReply (standing_at told self.old).marked (reading_of line.now)) }
+        ensures counts { IfOk result (λ reply. self.new.refused
+            ≡ self.old.refused + (if counts_as_refused reply then 1 else 0)) }
         ensures quiet { OnOk result (self.new.log.failures ≡ self.old.log.failures) }
         ensures counted { IfErr result (FaultCounts self.old.log.failures self.new.log.failures) }
         ensures unanswered { IfErr result IsUnanswered }
         ensures once { H.whole ≡ true → IfErr result IsOnce }
-        ensures line { OnOk result (self.new.standing.line ≡ self.old.standing.line + 1) }
+        ensures line { OnOk result (self.new.line ≡ self.old.line + 1) }
+        ensures look { self.new.look ≡ self.old.look }
         ensures follows { Follows self.old.log self.new.log }
     {
         match read_line(alloc, line) {
@@ -250,6 +261,7 @@ impl<H: Holder + Drop> Runner<H> {
             Ok(LineReading::NoCommand(misfit)) => Ok(self.pass(Reply::NoCommand(misfit), false)),
             Ok(LineReading::Said(command)) => {
                 ready(&mut self.session, &command, &mut self.log)?;
+                self.session.is_sound();
                 let clues = clues_of(wanted, &command);
                 let edits = is_edit(&command);
                 let reply = settled(
@@ -264,11 +276,13 @@ impl<H: Holder + Drop> Runner<H> {
 
     // Goes on to the next line, after one that came to this, whose command is an edit or isn't.
     fn pass<'a>(&mut self, reply: Reply<'a>, edits: bool) -> Reply<'a>
-        requires { self.old.standing.line + 1 < 2 ^ 64 }
+        requires { self.old.line + 1 < 2 ^ 64 }
         ensures same { result ≡ reply.entry }
-        ensures left { self.new.standing
-            ≡ after_reply (counts_as_refused reply.entry) edits self.old.standing }
-        ensures log { self.new.log ≡ self.old.log }
+        ensures left { self.new ≡ record self.old {
+          line = self.old.line + 1;
+          refused = self.old.refused + (if counts_as_refused reply.entry then 1 else 0);
+          edited = if counts_as_refused reply.entry then self.old.edited else edits || self.old.edited;
+        } }
     {
         self.line += 1;
         if counts_as_refused(&reply) {
@@ -287,10 +301,17 @@ impl<H: Holder + Drop> Runner<H> {
         level: Level,
         tables: bool,
     ) -> Result<Reports, AllocError>
-        ensures value { (level ≡ Quiet → ⊥) → IfOk result (λ reports. read_reports reports
-            ≡ reports_of tables self.old.standing.marked.file) }
+        requires { (level ≡ Quiet → ⊥) → self.old.look ≡ LookAll }
+        ensures value { (level ≡ Quiet → ⊥) → (told : List ℕ) → IsToldBy H.whole told self.old.log
+            → IfOk result (λ reports. read_reports reports
+            ≡ reports_of tables (standing_at told self.old).marked.file) }
         ensures ordered { IfOk result (λ reports. AllPairs IsListedBefore reports.problems.items) }
-        ensures left { self.new ≡ self.old }
+        ensures standing { (told : List ℕ) → standing_at told self.new ≡ standing_at told self.old }
+        ensures over { standing_over self.new (guarded_by self.new self.new.session)
+            ≡ standing_over self.old (guarded_by self.old self.old.session) }
+        ensures line { self.new.line ≡ self.old.line }
+        ensures look { self.new.look ≡ self.old.look }
+        ensures log { self.new.log ≡ self.old.log }
     {
         if let Level::Quiet = level {
             return Ok(Reports::none(alloc));
@@ -301,11 +322,20 @@ impl<H: Holder + Drop> Runner<H> {
     // What is wrong with the file as it stands, and with its tables where they are judged.
     #[tactic(auto, unfolding(crate::specs::Reports::reports_of))]
     fn reports(&mut self, alloc: Global, tables: bool) -> Result<Reports, AllocError>
-        ensures value { IfOk result (λ reports. read_reports reports
-            ≡ reports_of tables self.old.standing.marked.file) }
-        ensures left { self.new ≡ self.old }
+        requires { self.old.look ≡ LookAll }
+        ensures value { (told : List ℕ) → IsToldBy H.whole told self.old.log
+            → IfOk result (λ reports. read_reports reports
+            ≡ reports_of tables (standing_at told self.old).marked.file) }
+        ensures ordered { IfOk result (λ reports. AllPairs IsListedBefore reports.problems.items) }
+        ensures standing { (told : List ℕ) → standing_at told self.new ≡ standing_at told self.old }
+        ensures over { standing_over self.new (guarded_by self.new self.new.session)
+            ≡ standing_over self.old (guarded_by self.old self.old.session) }
+        ensures line { self.new.line ≡ self.old.line }
+        ensures look { self.new.look ≡ self.old.look }
+        ensures log { self.new.log ≡ self.old.log }
     {
-        let problems = self.session.report()?;
+        self.session.is_sound();
+        let problems = self.session.known_report()?;
         let tables = table_problems(alloc, &mut self.session, tables)?;
         Ok(Reports { problems, tables })
     }
@@ -319,15 +349,21 @@ impl<H: Holder + Drop> Runner<H> {
         tables: bool,
         before: &Reports,
     ) -> Result<NewErrors, AllocError>
-        requires { AllPairs IsListedBefore before.now.problems.items }
-        ensures text { IfOk result (λ found. found.text.items
-            ≡ new_lines level (read_reports before.now) (reports_of tables self.old.standing.marked.file)) }
-        ensures errors { IfOk result (λ found. found.errors
-            ≡ new_error_count level (read_reports before.now) (reports_of tables self.old.standing.marked.file)) }
-        ensures warnings { IfOk result (λ found. found.warnings
-            ≡ new_warning_count level (read_reports before.now) (reports_of tables self.old.standing.marked.file)) }
+        requires ordered { AllPairs IsListedBefore before.now.problems.items }
+        requires look { (level ≡ Quiet → ⊥) → self.old.look ≡ LookAll }
+        ensures text { (told : List ℕ) → IsToldBy H.whole told self.old.log → IfOk result (λ found. found.text.items
+            ≡ new_lines level (read_reports before.now) (reports_of tables (standing_at told self.old).marked.file)) }
+        ensures errors { (told : List ℕ) → IsToldBy H.whole told self.old.log → IfOk result (λ found. found.errors
+            ≡ new_error_count level (read_reports before.now) (reports_of tables (standing_at told self.old).marked.file)) }
+        ensures warnings { (told : List ℕ) → IsToldBy H.whole told self.old.log → IfOk result (λ found. found.warnings
+            ≡ new_warning_count level (read_reports before.now) (reports_of tables (standing_at told self.old).marked.file)) }
         ensures err { OnErr result (level ≡ Quiet → ⊥) }
-        ensures left { self.new ≡ self.old }
+        ensures standing { (told : List ℕ) → standing_at told self.new ≡ standing_at told self.old }
+        ensures over { standing_over self.new (guarded_by self.new self.new.session)
+            ≡ standing_over self.old (guarded_by self.old self.old.session) }
+        ensures line { self.new.line ≡ self.old.line }
+        ensures look { self.new.look ≡ self.old.look }
+        ensures log { self.new.log ≡ self.old.log }
     {
         if let Level::Quiet = level {
             return Ok(NewErrors::none(alloc));
@@ -340,18 +376,22 @@ impl<H: Holder + Drop> Runner<H> {
     /// Saves the file on these terms, and flushes it.
     #[tactic(auto, using(fits_stream::proofs::StreamLemmas::flush_steps))]
     pub(crate) fn save<P: Sink>(&mut self, terms: Terms, saved: &mut P) -> Result<(), Fault>
-        ensures ok { Steady H.whole self.new.log → OnOk result (Prints (saved_bytes terms self.old.standing)
+        ensures ok { (told : List ℕ) → IsToldBy H.whole told self.new.log
+            → OnOk result (Prints (saved_bytes terms (standing_at told self.old))
             (P.state saved.old) (P.state saved.new)) }
-        ensures err { Steady H.whole self.new.log → IfErr result (SaveFails (saved_bytes terms self.old.standing)
+        ensures err { (told : List ℕ) → IsToldBy H.whole told self.new.log
+            → IfErr result (SaveFails (saved_bytes terms (standing_at told self.old))
             (P.state saved.old) (P.state saved.new)) }
         ensures quiet { OnOk result (self.new.log.failures ≡ self.old.log.failures) }
         ensures counted { IfErr result (FaultCounts self.old.log.failures self.new.log.failures) }
         ensures once { H.whole ≡ true → IfErr result IsOnce }
-        ensures like { OnOk result (PrintsLike (saved_bytes terms self.old.standing)
-            (P.state saved.old) (P.state saved.new)) }
+        ensures like { OnOk result (PrintsAs
+            (HasTotalBy self.old.look (saved_bytes terms (standing_over self.old (guarded_by self.old self.old.session))))
+            (length (saved_bytes terms (standing_over self.old (guarded_by self.old self.old.session)))) (P.state saved.old) (P.state saved.new)) }
         ensures leaves { IfErr result (SavingLeaves (P.state saved.old) (P.state saved.new)) }
         ensures flushed { OnOk result ((P.state saved.new).unflushed ≡ 0) }
-        ensures standing { self.new.standing ≡ self.old.standing }
+        ensures standing { (told : List ℕ) → standing_at told self.new ≡ standing_at told self.old }
+        ensures look { self.new.look ≡ self.old.look }
         ensures follows { Follows self.old.log self.new.log }
     {
         self.write(terms, saved)?;
@@ -360,17 +400,21 @@ impl<H: Holder + Drop> Runner<H> {
 
     // Writes what is saved on these terms.
     fn write<P: Sink>(&mut self, terms: Terms, saved: &mut P) -> Result<(), Fault>
-        ensures ok { Steady H.whole self.new.log → OnOk result (Prints (saved_bytes terms self.old.standing)
+        ensures ok { (told : List ℕ) → IsToldBy H.whole told self.new.log
+            → OnOk result (Prints (saved_bytes terms (standing_at told self.old))
             (P.state saved.old) (P.state saved.new)) }
-        ensures err { Steady H.whole self.new.log → IfErr result (SaveFails (saved_bytes terms self.old.standing)
+        ensures err { (told : List ℕ) → IsToldBy H.whole told self.new.log
+            → IfErr result (SaveFails (saved_bytes terms (standing_at told self.old))
             (P.state saved.old) (P.state saved.new)) }
         ensures quiet { OnOk result (self.new.log.failures ≡ self.old.log.failures) }
         ensures counted { IfErr result (FaultCounts self.old.log.failures self.new.log.failures) }
         ensures once { H.whole ≡ true → IfErr result IsOnce }
-        ensures like { OnOk result (PrintsLike (saved_bytes terms self.old.standing)
-            (P.state saved.old) (P.state saved.new)) }
+        ensures like { OnOk result (PrintsAs
+            (HasTotalBy self.old.look (saved_bytes terms (standing_over self.old (guarded_by self.old self.old.session))))
+            (length (saved_bytes terms (standing_over self.old (guarded_by self.old self.old.session)))) (P.state saved.old) (P.state saved.new)) }
         ensures leaves { IfErr result (SavingLeaves (P.state saved.old) (P.state saved.new)) }
-        ensures standing { self.new.standing ≡ self.old.standing }
+        ensures standing { (told : List ℕ) → standing_at told self.new ≡ standing_at told self.old }
+        ensures look { self.new.look ≡ self.old.look }
         ensures follows { Follows self.old.log self.new.log }
     {
         if self.is_spared(terms) {
@@ -382,7 +426,7 @@ impl<H: Holder + Drop> Runner<H> {
 
     // Whether nothing is saved on these terms, since no edit was accepted.
     fn is_spared(&self, terms: Terms) -> bool
-        ensures { result ≡ (terms.spare && not self.now.standing.edited) }
+        ensures { result ≡ (terms.spare && not self.now.edited) }
     {
         terms.spare && !self.edited
     }
@@ -390,9 +434,11 @@ impl<H: Holder + Drop> Runner<H> {
 
 // Marks the HDUs that these terms have kept from the first line on.
 fn keep_first<H: Holder + Drop>(session: &mut Session<H>, terms: Terms)
-    requires { marked_of session.old ≡ unmarked (file_of session.old) }
+    requires unmarked { marked_of session.old ≡ unmarked (file_of session.old) }
+    requires seen { terms.sums ≡ true → All IsSeen session.old.hdus }
     ensures marked { guarded terms.tables (marked_of session.new)
         ≡ marked_first terms (file_of session.old) }
+    ensures absences { absences_of session.new.hdus ≡ absences_of session.old.hdus }
     ensures stays { LieStill session.old.hdus session.new.hdus }
 {
     if terms.sums {

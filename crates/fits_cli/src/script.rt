@@ -1,5 +1,5 @@
 //! A script, answered line by line as it comes.
-ghost use Rattle.std.specs.Prelude.{◌≡◌, ◌<◌, ◌≤◌, ◌+◌, ◌^◌, ◌++◌, ◌==◌, ◌||◌, true, nat_lt, [], ◌∷◌, IfNone, IfSome, length, take, IfErr, IfOk, OnErr, OnOk};
+ghost use Rattle.std.specs.Prelude.{◌≡◌, ◌<◌, ◌≤◌, ◌+◌, ◌^◌, ◌++◌, ◌==◌, ◌||◌, ℕ, List, true, nat_lt, [], ◌∷◌, IfNone, IfSome, length, take, IfErr, IfOk, OnErr, OnOk};
 ghost use Rattle.std.specs.Prelude.{vec_capacity, vec_len};
 ghost use Rattle.std.specs.Option.{option_map};
 ghost use Rattle.std.specs.Io.{ReadsAtMost};
@@ -13,7 +13,7 @@ ghost use Rattle.fits_unit.specs.Again.{Follows};
 ghost use Rattle.fits_cli.specs.Answer.{done_last, each_answer, each_left, first_line, in_turn, of_each, of_none, plain_answer, plain_left, AtOne};
 ghost use Rattle.fits_extended.specs.Stands.{lines_in};
 ghost use Rattle.fits_cli.specs.Remark.{each_remark, plain_remark, remark_by, remark_line};
-ghost use Rattle.fits_cli.specs.Running.{heard, kept_of, AnswersLine, AnswersMeant, AnswersPlain, AnswersScript, Continues, LacksEach, LacksOne, Steady};
+ghost use Rattle.fits_cli.specs.Running.{heard, kept_of, standing_at, AnswersLine, AnswersMeant, AnswersPlain, AnswersScript, Continues, IsToldBy, LacksEach, LacksOne};
 ghost use Rattle.fits_cli.specs.Running.{EndsScript, EndStops, LineStops, MeantStops, PieceStops, PlainStops, ScriptStops};
 
 use crate::limits::SCRIPT_LIMIT;
@@ -39,11 +39,11 @@ fn answer_line<H: Holder + Drop, O: Sink, E: Sink>(
     out: &mut O,
     told: &mut Option<E>,
 ) -> Result<(), Fault>
-    requires { runner.old.standing.line + 1 < 2 ^ 64 }
-    ensures ok { Steady H.whole runner.new.log → OnOk result (AnswersLine line.now runner.old.standing runner.new.standing
+    requires { runner.old.line + 1 < 2 ^ 64 }
+    ensures ok { (bytes : List ℕ) → IsToldBy H.whole bytes runner.new.log → OnOk result (AnswersLine line.now (standing_at bytes runner.old) (standing_at bytes runner.new)
         (heard (O.state out.old) (option_map E.state told.old))
         (heard (O.state out.new) (option_map E.state told.new))) }
-    ensures err { Steady H.whole runner.new.log → IfErr result (LineStops line.now runner.old.standing
+    ensures err { (bytes : List ℕ) → IsToldBy H.whole bytes runner.new.log → IfErr result (LineStops line.now (standing_at bytes runner.old)
         (heard (O.state out.old) (option_map E.state told.old))
         (heard (O.state out.new) (option_map E.state told.new))) }
     ensures quiet { OnOk result (runner.new.log.failures ≡ runner.old.log.failures) }
@@ -52,7 +52,8 @@ fn answer_line<H: Holder + Drop, O: Sink, E: Sink>(
     ensures leaves { IfErr result (LinesLeave (O.state out.old) (O.state out.new)) }
     ensures once { H.whole ≡ true → IfErr result IsOnce }
     ensures follows { Follows runner.old.log runner.new.log }
-    ensures line { OnOk result (runner.new.standing.line ≡ runner.old.standing.line + 1) }
+    ensures look { runner.new.look ≡ runner.old.look }
+    ensures line { OnOk result (runner.new.line ≡ runner.old.line + 1) }
 {
     if let Some(queries) = runner.queries(alloc, line)? {
         return answer_each(alloc, runner, &queries, out, told);
@@ -73,11 +74,12 @@ fn answer_unmet<H: Holder + Drop, O: Sink, E: Sink>(
     out: &mut O,
     told: &mut Option<E>,
 ) -> Result<(), Fault>
-    requires { runner.old.standing.line + 1 < 2 ^ 64 }
-    ensures ok { OnOk result (AnswersMeant (of_none why) runner.old.standing runner.new.standing
+    requires { runner.old.line + 1 < 2 ^ 64 }
+    ensures ok { (bytes : List ℕ) → OnOk result (AnswersMeant (of_none why)
+        (standing_at bytes runner.old) (standing_at bytes runner.new)
         (heard (O.state out.old) (option_map E.state told.old))
         (heard (O.state out.new) (option_map E.state told.new))) }
-    ensures err { IfErr result (MeantStops (of_none why) runner.old.standing
+    ensures err { (bytes : List ℕ) → IfErr result (MeantStops (of_none why) (standing_at bytes runner.old)
         (heard (O.state out.old) (option_map E.state told.old))
         (heard (O.state out.new) (option_map E.state told.new))) }
     ensures said { OnOk result (PrintsSome (O.state out.old) (O.state out.new)) }
@@ -85,6 +87,8 @@ fn answer_unmet<H: Holder + Drop, O: Sink, E: Sink>(
     ensures once { IfErr result IsOnce }
     ensures counted { IfErr result (FaultCounts runner.old.log.failures runner.new.log.failures) }
     ensures log { runner.new.log ≡ runner.old.log }
+    ensures look { runner.new.look ≡ runner.old.look }
+    ensures line { runner.new.line ≡ runner.old.line + 1 }
 {
     let number = runner.line();
     let reply = runner.refuse(why);
@@ -101,11 +105,11 @@ fn answer_plain<H: Holder + Drop, O: Sink, E: Sink>(
     out: &mut O,
     told: &mut Option<E>,
 ) -> Result<(), Fault>
-    requires { runner.old.standing.line + 1 < 2 ^ 64 }
-    ensures ok { Steady H.whole runner.new.log → OnOk result (AnswersPlain line.now runner.old.standing runner.new.standing
+    requires { runner.old.line + 1 < 2 ^ 64 }
+    ensures ok { (bytes : List ℕ) → IsToldBy H.whole bytes runner.new.log → OnOk result (AnswersPlain line.now (standing_at bytes runner.old) (standing_at bytes runner.new)
         (heard (O.state out.old) (option_map E.state told.old))
         (heard (O.state out.new) (option_map E.state told.new))) }
-    ensures err { Steady H.whole runner.new.log → IfErr result (PlainStops line.now runner.old.standing
+    ensures err { (bytes : List ℕ) → IsToldBy H.whole bytes runner.new.log → IfErr result (PlainStops line.now (standing_at bytes runner.old)
         (heard (O.state out.old) (option_map E.state told.old))
         (heard (O.state out.new) (option_map E.state told.new))) }
     ensures quiet { OnOk result (runner.new.log.failures ≡ runner.old.log.failures) }
@@ -114,7 +118,8 @@ fn answer_plain<H: Holder + Drop, O: Sink, E: Sink>(
     ensures leaves { IfErr result (LinesLeave (O.state out.old) (O.state out.new)) }
     ensures once { H.whole ≡ true → IfErr result IsOnce }
     ensures follows { Follows runner.old.log runner.new.log }
-    ensures line { OnOk result (runner.new.standing.line ≡ runner.old.standing.line + 1) }
+    ensures look { runner.new.look ≡ runner.old.look }
+    ensures line { OnOk result (runner.new.line ≡ runner.old.line + 1) }
 {
     let number = runner.line();
     let wanted = told.is_some();
@@ -132,13 +137,14 @@ fn answer_plains<H: Holder + Drop, O: Sink, E: Sink>(
     out: &mut O,
     told: &mut Option<E>,
 ) -> Result<(), Fault>
-    requires { runner.old.standing.line + 1 < 2 ^ 64 }
-    ensures ok { Steady H.whole runner.new.log → OnOk result (AnswersMeant (in_turn (lines_in plains.now))
-        runner.old.standing runner.new.standing
+    requires { runner.old.line + 1 < 2 ^ 64 }
+    ensures ok { (bytes : List ℕ) → IsToldBy H.whole bytes runner.new.log
+        → OnOk result (AnswersMeant (in_turn (lines_in plains.now))
+        (standing_at bytes runner.old) (standing_at bytes runner.new)
         (heard (O.state out.old) (option_map E.state told.old))
         (heard (O.state out.new) (option_map E.state told.new))) }
-    ensures err { Steady H.whole runner.new.log → IfErr result (MeantStops (in_turn (lines_in plains.now))
-        runner.old.standing
+    ensures err { (bytes : List ℕ) → IsToldBy H.whole bytes runner.new.log
+        → IfErr result (MeantStops (in_turn (lines_in plains.now)) (standing_at bytes runner.old)
         (heard (O.state out.old) (option_map E.state told.old))
         (heard (O.state out.new) (option_map E.state told.new))) }
     ensures quiet { OnOk result (runner.new.log.failures ≡ runner.old.log.failures) }
@@ -147,7 +153,8 @@ fn answer_plains<H: Holder + Drop, O: Sink, E: Sink>(
     ensures leaves { IfErr result (LinesLeave (O.state out.old) (O.state out.new)) }
     ensures once { H.whole ≡ true → IfErr result IsOnce }
     ensures follows { Follows runner.old.log runner.new.log }
-    ensures line { OnOk result (runner.new.standing.line ≡ runner.old.standing.line + 1) }
+    ensures look { runner.new.look ≡ runner.old.look }
+    ensures line { OnOk result (runner.new.line ≡ runner.old.line + 1) }
 {
     let number = runner.line();
     let wanted = told.is_some();
@@ -165,13 +172,14 @@ fn answer_each<H: Holder + Drop, O: Sink, E: Sink>(
     out: &mut O,
     told: &mut Option<E>,
 ) -> Result<(), Fault>
-    requires { runner.old.standing.line + 1 < 2 ^ 64 }
-    ensures ok { Steady H.whole runner.new.log → OnOk result (AnswersMeant (of_each (lines_in plains.now))
-        runner.old.standing runner.new.standing
+    requires { runner.old.line + 1 < 2 ^ 64 }
+    ensures ok { (bytes : List ℕ) → IsToldBy H.whole bytes runner.new.log
+        → OnOk result (AnswersMeant (of_each (lines_in plains.now))
+        (standing_at bytes runner.old) (standing_at bytes runner.new)
         (heard (O.state out.old) (option_map E.state told.old))
         (heard (O.state out.new) (option_map E.state told.new))) }
-    ensures err { Steady H.whole runner.new.log → IfErr result (MeantStops (of_each (lines_in plains.now))
-        runner.old.standing
+    ensures err { (bytes : List ℕ) → IsToldBy H.whole bytes runner.new.log
+        → IfErr result (MeantStops (of_each (lines_in plains.now)) (standing_at bytes runner.old)
         (heard (O.state out.old) (option_map E.state told.old))
         (heard (O.state out.new) (option_map E.state told.new))) }
     ensures quiet { OnOk result (runner.new.log.failures ≡ runner.old.log.failures) }
@@ -180,7 +188,8 @@ fn answer_each<H: Holder + Drop, O: Sink, E: Sink>(
     ensures leaves { IfErr result (LinesLeave (O.state out.old) (O.state out.new)) }
     ensures once { H.whole ≡ true → IfErr result IsOnce }
     ensures follows { Follows runner.old.log runner.new.log }
-    ensures line { OnOk result (runner.new.standing.line ≡ runner.old.standing.line + 1) }
+    ensures look { runner.new.look ≡ runner.old.look }
+    ensures line { OnOk result (runner.new.line ≡ runner.old.line + 1) }
 {
     let number = runner.line();
     let wanted = told.is_some();
@@ -199,21 +208,23 @@ fn reply_of_each<'a, H: Holder + Drop>(
     wanted: bool,
     plains: &'a [Vec<u8>],
 ) -> Result<(Reply<'a>, &'a [u8]), Fault>
-    requires { runner.old.standing.line + 1 < 2 ^ 64 }
-    ensures text { Steady H.whole runner.new.log → IfOk result (λ it. reply_text runner.old.standing.line it.0
-        ≡ each_answer runner.old.standing (lines_in plains.now)) }
-    ensures remark { Steady H.whole runner.new.log → IfOk result (λ it. wanted ≡ true
-        → remark_line runner.old.standing.line (remark_by it.1.now it.0)
-        ≡ each_remark runner.old.standing (lines_in plains.now)) }
-    ensures left { Steady H.whole runner.new.log → OnOk result
-        (runner.new.standing ≡ each_left runner.old.standing (lines_in plains.now)) }
-    ensures err { Steady H.whole runner.new.log → IfErr result
-        (LacksEach runner.old.standing (lines_in plains.now)) }
+    requires { runner.old.line + 1 < 2 ^ 64 }
+    ensures text { (bytes : List ℕ) → IsToldBy H.whole bytes runner.new.log
+        → IfOk result (λ it. reply_text runner.old.line it.0
+        ≡ each_answer (standing_at bytes runner.old) (lines_in plains.now)) }
+    ensures remark { (bytes : List ℕ) → IsToldBy H.whole bytes runner.new.log
+        → IfOk result (λ it. wanted ≡ true → remark_line runner.old.line (remark_by it.1.now it.0)
+        ≡ each_remark (standing_at bytes runner.old) (lines_in plains.now)) }
+    ensures left { (bytes : List ℕ) → IsToldBy H.whole bytes runner.new.log → OnOk result
+        (standing_at bytes runner.new ≡ each_left (standing_at bytes runner.old) (lines_in plains.now)) }
+    ensures err { (bytes : List ℕ) → IsToldBy H.whole bytes runner.new.log → IfErr result
+        (LacksEach (standing_at bytes runner.old) (lines_in plains.now)) }
     ensures quiet { OnOk result (runner.new.log.failures ≡ runner.old.log.failures) }
     ensures counted { IfErr result (FaultCounts runner.old.log.failures runner.new.log.failures) }
     ensures unanswered { IfErr result IsUnanswered }
     ensures once { H.whole ≡ true → IfErr result IsOnce }
-    ensures line { OnOk result (runner.new.standing.line ≡ runner.old.standing.line + 1) }
+    ensures line { OnOk result (runner.new.line ≡ runner.old.line + 1) }
+    ensures look { runner.new.look ≡ runner.old.look }
     ensures follows { Follows runner.old.log runner.new.log }
 {
     let number = runner.line();
@@ -256,21 +267,22 @@ fn reply_to_last<'a, H: Holder + Drop>(
     wanted: bool,
     plains: &'a [Vec<u8>],
 ) -> Result<(Reply<'a>, &'a [u8]), Fault>
-    requires { runner.old.standing.line + 1 < 2 ^ 64 }
-    ensures text { Steady H.whole runner.new.log → IfOk result (λ it. reply_text runner.old.standing.line it.0
-        ≡ plain_answer (done_last runner.old.standing (lines_in plains.now))) }
-    ensures remark { Steady H.whole runner.new.log → IfOk result (λ it. wanted ≡ true
-        → remark_line runner.old.standing.line (remark_by it.1.now it.0)
-        ≡ plain_remark (done_last runner.old.standing (lines_in plains.now))) }
-    ensures left { Steady H.whole runner.new.log → OnOk result
-        (runner.new.standing ≡ plain_left (done_last runner.old.standing (lines_in plains.now))) }
-    ensures err { Steady H.whole runner.new.log → IfErr result (λ fault.
-        AtOne (LacksOne fault) runner.old.standing (lines_in plains.now)) }
+    requires { runner.old.line + 1 < 2 ^ 64 }
+    ensures text { (bytes : List ℕ) → IsToldBy H.whole bytes runner.new.log → IfOk result (λ it. reply_text runner.old.line it.0
+        ≡ plain_answer (done_last (standing_at bytes runner.old) (lines_in plains.now))) }
+    ensures remark { (bytes : List ℕ) → IsToldBy H.whole bytes runner.new.log → IfOk result (λ it. wanted ≡ true
+        → remark_line runner.old.line (remark_by it.1.now it.0)
+        ≡ plain_remark (done_last (standing_at bytes runner.old) (lines_in plains.now))) }
+    ensures left { (bytes : List ℕ) → IsToldBy H.whole bytes runner.new.log → OnOk result
+        ((standing_at bytes runner.new) ≡ plain_left (done_last (standing_at bytes runner.old) (lines_in plains.now))) }
+    ensures err { (bytes : List ℕ) → IsToldBy H.whole bytes runner.new.log → IfErr result (λ fault.
+        AtOne (LacksOne fault) (standing_at bytes runner.old) (lines_in plains.now)) }
     ensures quiet { OnOk result (runner.new.log.failures ≡ runner.old.log.failures) }
     ensures counted { IfErr result (FaultCounts runner.old.log.failures runner.new.log.failures) }
     ensures unanswered { IfErr result IsUnanswered }
     ensures once { H.whole ≡ true → IfErr result IsOnce }
-    ensures line { OnOk result (runner.new.standing.line ≡ runner.old.standing.line + 1) }
+    ensures line { OnOk result (runner.new.line ≡ runner.old.line + 1) }
+    ensures look { runner.new.look ≡ runner.old.look }
     ensures follows { Follows runner.old.log runner.new.log }
 {
     let number = runner.line();
@@ -351,14 +363,14 @@ fn answer_piece<H: Holder + Drop, O: Sink, E: Sink>(
     out: &mut O,
     told: &mut Option<E>,
 ) -> Result<(), Fault>
-    requires numbers { runner.old.standing.line + length piece.now + 1 < 2 ^ 64 }
+    requires numbers { runner.old.line + length piece.now + 1 < 2 ^ 64 }
     requires room { LINE_LIMIT + 1 ≤ vec_capacity line.old }
     requires within { vec_len line.old ≤ LINE_LIMIT + 1 }
-    ensures ok { Steady H.whole runner.new.log → OnOk result (Continues piece.now line.old.items line.new.items runner.old.standing
-        runner.new.standing
+    ensures ok { (bytes : List ℕ) → IsToldBy H.whole bytes runner.new.log → OnOk result (Continues piece.now line.old.items line.new.items (standing_at bytes runner.old)
+        (standing_at bytes runner.new)
         (heard (O.state out.old) (option_map E.state told.old))
         (heard (O.state out.new) (option_map E.state told.new))) }
-    ensures err { Steady H.whole runner.new.log → IfErr result (PieceStops piece.now line.old.items runner.old.standing
+    ensures err { (bytes : List ℕ) → IsToldBy H.whole bytes runner.new.log → IfErr result (PieceStops piece.now line.old.items (standing_at bytes runner.old)
         (heard (O.state out.old) (option_map E.state told.old))
         (heard (O.state out.new) (option_map E.state told.new))) }
     ensures quiet { OnOk result (runner.new.log.failures ≡ runner.old.log.failures) }
@@ -367,7 +379,8 @@ fn answer_piece<H: Holder + Drop, O: Sink, E: Sink>(
     ensures leaves { IfErr result (LinesLeave (O.state out.old) (O.state out.new)) }
     ensures once { H.whole ≡ true → IfErr result IsOnce }
     ensures follows { Follows runner.old.log runner.new.log }
-    ensures line { OnOk result (runner.new.standing.line ≤ runner.old.standing.line + length piece.now) }
+    ensures look { runner.new.look ≡ runner.old.look }
+    ensures line { OnOk result (runner.new.line ≤ runner.old.line + length piece.now) }
     ensures room { OnOk result (LINE_LIMIT + 1 ≤ vec_capacity line.new) }
     ensures within { OnOk result (vec_len line.new ≤ LINE_LIMIT + 1) }
 {
@@ -393,14 +406,14 @@ fn answer_at_once<H: Holder + Drop, O: Sink, E: Sink>(
     out: &mut O,
     told: &mut Option<E>,
 ) -> Result<(), Fault>
-    requires numbers { runner.old.standing.line + length piece.now + 1 < 2 ^ 64 }
+    requires numbers { runner.old.line + length piece.now + 1 < 2 ^ 64 }
     requires room { LINE_LIMIT + 1 ≤ vec_capacity line.old }
     requires within { vec_len line.old ≤ LINE_LIMIT + 1 }
-    ensures ok { Steady H.whole runner.new.log → OnOk result (Continues piece.now line.old.items line.new.items runner.old.standing
-        runner.new.standing
+    ensures ok { (bytes : List ℕ) → IsToldBy H.whole bytes runner.new.log → OnOk result (Continues piece.now line.old.items line.new.items (standing_at bytes runner.old)
+        (standing_at bytes runner.new)
         (heard (O.state out.old) (option_map E.state told.old))
         (heard (O.state out.new) (option_map E.state told.new))) }
-    ensures err { Steady H.whole runner.new.log → IfErr result (PieceStops piece.now line.old.items runner.old.standing
+    ensures err { (bytes : List ℕ) → IsToldBy H.whole bytes runner.new.log → IfErr result (PieceStops piece.now line.old.items (standing_at bytes runner.old)
         (heard (O.state out.old) (option_map E.state told.old))
         (heard (O.state out.new) (option_map E.state told.new))) }
     ensures quiet { OnOk result (runner.new.log.failures ≡ runner.old.log.failures) }
@@ -409,8 +422,9 @@ fn answer_at_once<H: Holder + Drop, O: Sink, E: Sink>(
     ensures leaves { IfErr result (LinesLeave (O.state out.old) (O.state out.new)) }
     ensures once { H.whole ≡ true → IfErr result IsOnce }
     ensures follows { Follows runner.old.log runner.new.log }
+    ensures look { runner.new.look ≡ runner.old.look }
     ensures flushed { OnOk result ((O.state out.new).unflushed ≡ 0) }
-    ensures line { OnOk result (runner.new.standing.line ≤ runner.old.standing.line + length piece.now) }
+    ensures line { OnOk result (runner.new.line ≤ runner.old.line + length piece.now) }
     ensures room { OnOk result (LINE_LIMIT + 1 ≤ vec_capacity line.new) }
     ensures within { OnOk result (vec_len line.new ≤ LINE_LIMIT + 1) }
 {
@@ -426,11 +440,11 @@ fn answer_last_line<H: Holder + Drop, O: Sink, E: Sink>(
     out: &mut O,
     told: &mut Option<E>,
 ) -> Result<(), Fault>
-    requires { runner.old.standing.line + 1 < 2 ^ 64 }
-    ensures ok { Steady H.whole runner.new.log → OnOk result (EndsScript line.now runner.old.standing runner.new.standing
+    requires { runner.old.line + 1 < 2 ^ 64 }
+    ensures ok { (bytes : List ℕ) → IsToldBy H.whole bytes runner.new.log → OnOk result (EndsScript line.now (standing_at bytes runner.old) (standing_at bytes runner.new)
         (heard (O.state out.old) (option_map E.state told.old))
         (heard (O.state out.new) (option_map E.state told.new))) }
-    ensures err { Steady H.whole runner.new.log → IfErr result (EndStops line.now runner.old.standing
+    ensures err { (bytes : List ℕ) → IsToldBy H.whole bytes runner.new.log → IfErr result (EndStops line.now (standing_at bytes runner.old)
         (heard (O.state out.old) (option_map E.state told.old))
         (heard (O.state out.new) (option_map E.state told.new))) }
     ensures quiet { OnOk result (runner.new.log.failures ≡ runner.old.log.failures) }
@@ -439,6 +453,7 @@ fn answer_last_line<H: Holder + Drop, O: Sink, E: Sink>(
     ensures leaves { IfErr result (LinesLeave (O.state out.old) (O.state out.new)) }
     ensures once { H.whole ≡ true → IfErr result IsOnce }
     ensures follows { Follows runner.old.log runner.new.log }
+    ensures look { runner.new.look ≡ runner.old.look }
 {
     if line.is_empty() {
         return Ok(());
@@ -455,12 +470,12 @@ pub(crate) fn answer_script<H: Holder + Drop, S: Source, O: Sink, E: Sink>(
     out: &mut O,
     told: &mut Option<E>,
 ) -> Result<(), Fault>
-    requires { runner.old.standing.line ≡ 1 }
-    ensures ok { Steady H.whole runner.new.log → OnOk result (AnswersScript (S.state script.old) (S.state script.new) runner.old.standing
-        runner.new.standing
+    requires { runner.old.line ≡ 1 }
+    ensures ok { (bytes : List ℕ) → IsToldBy H.whole bytes runner.new.log → OnOk result (AnswersScript (S.state script.old) (S.state script.new) (standing_at bytes runner.old)
+        (standing_at bytes runner.new)
         (heard (O.state out.old) (option_map E.state told.old))
         (heard (O.state out.new) (option_map E.state told.new))) }
-    ensures err { Steady H.whole runner.new.log → IfErr result (ScriptStops (S.state script.old) (S.state script.new) runner.old.standing
+    ensures err { (bytes : List ℕ) → IsToldBy H.whole bytes runner.new.log → IfErr result (ScriptStops (S.state script.old) (S.state script.new) (standing_at bytes runner.old)
         (heard (O.state out.old) (option_map E.state told.old))
         (heard (O.state out.new) (option_map E.state told.new))) }
     ensures quiet { OnOk result (runner.new.log.failures ≡ runner.old.log.failures) }
@@ -472,6 +487,7 @@ pub(crate) fn answer_script<H: Holder + Drop, S: Source, O: Sink, E: Sink>(
         (O.state out.old) (O.state out.new)) }
     ensures once { H.whole ≡ true → IfErr result IsOnce }
     ensures follows { Follows runner.old.log runner.new.log }
+    ensures look { runner.new.look ≡ runner.old.look }
 {
     let mut buffer = buffer_of(alloc, PIECE_LEN)?;
     let mut line = Vec::with_capacity(alloc, LINE_ROOM)?;
@@ -516,15 +532,15 @@ fn answer_pieces<H: Holder + Drop, S: Source, O: Sink, E: Sink>(
     piece: &mut [u8],
     line: &mut Vec<u8>,
 ) -> Result<(), Fault>
-    requires first { runner.old.standing.line ≡ 1 }
+    requires first { runner.old.line ≡ 1 }
     requires wide { 0 < length piece.old }
     requires empty { line.old.items ≡ [] }
     requires room { LINE_LIMIT + 1 ≤ vec_capacity line.old }
-    ensures ok { Steady H.whole runner.new.log → OnOk result (AnswersScript (S.state script.old) (S.state script.new) runner.old.standing
-        runner.new.standing
+    ensures ok { (bytes : List ℕ) → IsToldBy H.whole bytes runner.new.log → OnOk result (AnswersScript (S.state script.old) (S.state script.new) (standing_at bytes runner.old)
+        (standing_at bytes runner.new)
         (heard (O.state out.old) (option_map E.state told.old))
         (heard (O.state out.new) (option_map E.state told.new))) }
-    ensures err { Steady H.whole runner.new.log → IfErr result (ScriptStops (S.state script.old) (S.state script.new) runner.old.standing
+    ensures err { (bytes : List ℕ) → IsToldBy H.whole bytes runner.new.log → IfErr result (ScriptStops (S.state script.old) (S.state script.new) (standing_at bytes runner.old)
         (heard (O.state out.old) (option_map E.state told.old))
         (heard (O.state out.new) (option_map E.state told.new))) }
     ensures quiet { OnOk result (runner.new.log.failures ≡ runner.old.log.failures) }
@@ -536,6 +552,7 @@ fn answer_pieces<H: Holder + Drop, S: Source, O: Sink, E: Sink>(
         (O.state out.old) (O.state out.new)) }
     ensures once { H.whole ≡ true → IfErr result IsOnce }
     ensures follows { Follows runner.old.log runner.new.log }
+    ensures look { runner.new.look ≡ runner.old.look }
 {
     let mut taken = 0usize;
     loop {

@@ -2,7 +2,7 @@
 ghost use Rattle.std.specs.Prelude.{◌≡◌, ◌+◌, ◌^◌, ◌<◌, ◌++◌, length, IfOk, Ok, OnOk};
 ghost use Rattle.fits_session.specs.Away.{LieStill};
 ghost use Rattle.fits_session.specs.Query.{table_codes_in};
-ghost use Rattle.fits_session.specs.Session.{file_of, marked_of};
+ghost use Rattle.fits_session.specs.Session.{absences_of, file_of, marked_of};
 ghost use Rattle.fits_cli.specs.NewTables.{judged_count, problems_in, table_problems};
 
 use fits_session::{Holder, Refusal, Session};
@@ -19,6 +19,7 @@ pub(crate) fn table_problems<H: Holder + Drop>(
     ensures value { IfOk result (λ report. report.items
         ≡ table_problems tables (file_of session.old)) }
     ensures same { marked_of session.new ≡ marked_of session.old }
+    ensures absences { absences_of session.new.hdus ≡ absences_of session.old.hdus }
     ensures stays { LieStill session.old.hdus session.new.hdus }
 {
     let mut report = Vec::new(alloc);
@@ -41,6 +42,7 @@ fn codes_at<H: Holder + Drop>(
     ensures value { IfOk result (λ codes. table_codes_in (file_of session.old) (i + 1)
         ≡ Ok codes.items) }
     ensures same { marked_of session.new ≡ marked_of session.old }
+    ensures absences { absences_of session.new.hdus ≡ absences_of session.old.hdus }
     ensures stays { LieStill session.old.hdus session.new.hdus }
 {
     match session.table_codes(i + 1) {

@@ -3,6 +3,7 @@ ghost use Rattle.fits_cli.specs.Terms.{asking};
 
 use crate::manner::Manner;
 use crate::saves::Saves;
+use fits_passing::Look;
 use fits_tell::Level;
 
 /// What a run keeps to, whatever its script says.
@@ -17,6 +18,22 @@ pub struct Terms {
     /// Nothing is saved where no edit was accepted.
     pub spare: bool,
     pub saves: Saves,
+}
+
+impl Terms {
+    ghost use Rattle.std.specs.Prelude.{◌≡◌};
+    ghost use Rattle.fits_cli.specs.Terms.{look_of};
+
+    /// How much of a stored file is looked at as it is opened: all of it where sums are kept right or
+    /// problems count, else its headers.
+    pub(crate) fn look(self) -> Look
+        ensures { result ≡ look_of self }
+    {
+        match (self.sums, self.saves.check()) {
+            (false, Level::Quiet) => Look::Headers,
+            _ => Look::All,
+        }
+    }
 }
 
 /// The terms of a run that has none of these, and saves what its script made.

@@ -5,7 +5,7 @@ ghost use Rattle.std.specs.Option.{option_copied};
 ghost use Rattle.fits_value.specs.Spelling.{is_space};
 ghost use Rattle.fits_session.specs.Away.{LieStill};
 ghost use Rattle.fits_session.specs.Query.{card_in};
-ghost use Rattle.fits_session.specs.Session.{file_of, marked_of};
+ghost use Rattle.fits_session.specs.Session.{absences_of, file_of, marked_of};
 ghost use Rattle.fits_script.specs.Words.{number_of_word};
 ghost use Rattle.fits_extended.specs.Stands.{added_after, adding_by, is_blank_card, last_filled};
 ghost use Rattle.fits_extended.specs.Words.{next_of};
@@ -26,6 +26,7 @@ pub(crate) fn add_line<H: Holder + Drop>(
         (option_copied rest.entry) (number_of_word (next_of (option_copied rest.entry)))) }
     ensures same { marked_of session.new ≡ marked_of session.old }
     ensures stays { LieStill session.old.hdus session.new.hdus }
+    ensures absences { absences_of session.new.hdus ≡ absences_of session.old.hdus }
 {
     let (word, more) = next_of(rest);
     let Some(hdu) = number_of_word(word) else {
@@ -65,6 +66,7 @@ pub(crate) fn last_filled<H: Holder + Drop>(
     ensures within { result ≤ count }
     ensures same { marked_of session.new ≡ marked_of session.old }
     ensures stays { LieStill session.old.hdus session.new.hdus }
+    ensures absences { absences_of session.new.hdus ≡ absences_of session.old.hdus }
 {
     let mut place = count;
     'places: while place > 0 {
@@ -81,6 +83,7 @@ fn is_blank_at<H: Holder + Drop>(session: &mut Session<H>, hdu: usize, place: us
     ensures value { result ≡ is_blank_card (card_in (file_of session.old) hdu place) }
     ensures same { marked_of session.new ≡ marked_of session.old }
     ensures stays { LieStill session.old.hdus session.new.hdus }
+    ensures absences { absences_of session.new.hdus ≡ absences_of session.old.hdus }
 {
     match session.card(hdu, place) {
         Ok(card) => are_spaces(card.bytes()),

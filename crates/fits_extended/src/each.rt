@@ -2,7 +2,7 @@
 ghost use Rattle.std.specs.Prelude.{◌≡◌, ℕ, List, length, true, Err, IfNone, IfOk, IfSome, Ok, OnErr};
 ghost use Rattle.std.specs.Option.{option_copied};
 ghost use Rattle.fits_session.specs.Away.{LieStill};
-ghost use Rattle.fits_session.specs.Session.{file_of, marked_of};
+ghost use Rattle.fits_session.specs.Session.{absences_of, file_of, marked_of};
 ghost use Rattle.fits_script.specs.Words.{after_next, after_word, first_word};
 ghost use Rattle.fits_extended.specs.Stands.{both, for_each, lines_if, lines_in, queries_for, stood, with_numbers};
 ghost use Rattle.fits_extended.specs.Words.{may_stand};
@@ -27,6 +27,7 @@ pub(crate) fn for_each<H: Holder + Drop>(
         (length (file_of session.old).hdus) 1) }
     ensures same { marked_of session.new ≡ marked_of session.old }
     ensures stays { LieStill session.old.hdus session.new.hdus }
+    ensures absences { absences_of session.new.hdus ≡ absences_of session.old.hdus }
 {
     let (verb, rest) = cut_word(line);
     let (_, more) = next_of(rest);

@@ -2,7 +2,7 @@
 ghost use Rattle.std.specs.Prelude.{◌≡◌, ◌≤◌, IfOk, List, ℕ, length};
 ghost use Rattle.std.specs.Option.{option_copied};
 ghost use Rattle.fits_session.specs.Away.{LieStill};
-ghost use Rattle.fits_session.specs.Session.{file_of, marked_of};
+ghost use Rattle.fits_session.specs.Session.{absences_of, file_of, marked_of};
 ghost use Rattle.fits_extended.specs.Stands.{as_one, lacking_by, met_if, stood, want_cards, want_value, wanted_by};
 ghost use Rattle.fits_value.specs.Says.{field_says};
 
@@ -29,6 +29,7 @@ pub(crate) fn wanted<H: Holder + Drop>(
         ≡ as_one (wanted_by (file_of session.old) hdu word.now (option_copied rest.entry))) }
     ensures same { marked_of session.new ≡ marked_of session.old }
     ensures stays { LieStill session.old.hdus session.new.hdus }
+    ensures absences { absences_of session.new.hdus ≡ absences_of session.old.hdus }
 {
     match rest {
         Some(field) => want_value(alloc, session, hdu, word, field),
@@ -87,6 +88,7 @@ fn want_value<H: Holder + Drop>(
         ≡ as_one (want_value (file_of session.old) hdu word.now field.now (field_says field.now))) }
     ensures same { marked_of session.new ≡ marked_of session.old }
     ensures stays { LieStill session.old.hdus session.new.hdus }
+    ensures absences { absences_of session.new.hdus ≡ absences_of session.old.hdus }
 {
     let Some((value, comment)) = read_field(alloc, field)? else {
         return Ok(Stands::Line(set_line(alloc, hdu, word, field)?));

@@ -2,7 +2,7 @@
 ghost use Rattle.std.specs.Prelude.{◌≡◌, ◌+◌, ◌<◌, ◌≤◌, ◌^◌, ◌∷◌, ◌++◌, [], codes, IfOk, OnOk, drop, length, take};
 ghost use Rattle.std.specs.Option.{option_copied};
 ghost use Rattle.fits_session.specs.Away.{LieStill};
-ghost use Rattle.fits_session.specs.Session.{file_of, marked_of};
+ghost use Rattle.fits_session.specs.Session.{absences_of, file_of, marked_of};
 ghost use Rattle.fits_script.specs.Words.{number_of_word};
 ghost use Rattle.fits_extended.specs.Stands.{added_after, history_after, history_by, last_gap, lines_in, piece_end, piece_len, pieces};
 ghost use Rattle.fits_extended.specs.Words.{next_of};
@@ -28,6 +28,7 @@ pub(crate) fn history_lines<H: Holder + Drop>(
         (option_copied rest.entry) (number_of_word (next_of (option_copied rest.entry)))) }
     ensures same { marked_of session.new ≡ marked_of session.old }
     ensures stays { LieStill session.old.hdus session.new.hdus }
+    ensures absences { absences_of session.new.hdus ≡ absences_of session.old.hdus }
 {
     let (word, more) = next_of(rest);
     let Some(hdu) = number_of_word(word) else {

@@ -1,7 +1,7 @@
 //! HDUs by the names of extensions.
 ghost use Rattle.std.specs.Prelude.{◌≡◌, IfNone, IfOk, IfSome};
 ghost use Rattle.fits_session.specs.Away.{LieStill};
-ghost use Rattle.fits_session.specs.Session.{file_of, marked_of};
+ghost use Rattle.fits_session.specs.Session.{absences_of, file_of, marked_of};
 ghost use Rattle.fits_extended.specs.Stands.{has_name, has_version, is_called, number_at, number_called, numbered};
 
 use crate::plain_text::with_number;
@@ -31,6 +31,7 @@ pub(crate) fn numbered<H: Holder + Drop>(
         (numbered (file_of session.old) line.now ≡ line.now)) }
     ensures same { marked_of session.new ≡ marked_of session.old }
     ensures stays { LieStill session.old.hdus session.new.hdus }
+    ensures absences { absences_of session.new.hdus ≡ absences_of session.old.hdus }
 {
     let (verb, rest) = cut_word(line);
     let (word, more) = next_of(rest);
@@ -47,6 +48,7 @@ fn number_at<H: Holder + Drop>(session: &mut Session<H>, word: &[u8]) -> Result<
     ensures value { IfOk result (λ number. number ≡ number_at (file_of session.old) word.now) }
     ensures same { marked_of session.new ≡ marked_of session.old }
     ensures stays { LieStill session.old.hdus session.new.hdus }
+    ensures absences { absences_of session.new.hdus ≡ absences_of session.old.hdus }
 {
     let (_, text) = word.split_at(word.len().min(1));
     let (name, version) = cut_version(text);
@@ -67,6 +69,7 @@ fn number_called<H: Holder + Drop>(
         number ≡ number_called (file_of session.old) name.now version) }
     ensures same { marked_of session.new ≡ marked_of session.old }
     ensures stays { LieStill session.old.hdus session.new.hdus }
+    ensures absences { absences_of session.new.hdus ≡ absences_of session.old.hdus }
 {
     let count = session.hdus();
     let mut before = 1;
@@ -92,6 +95,7 @@ fn is_called<H: Holder + Drop>(
         called ≡ is_called (file_of session.old) name.now version hdu) }
     ensures same { marked_of session.new ≡ marked_of session.old }
     ensures stays { LieStill session.old.hdus session.new.hdus }
+    ensures absences { absences_of session.new.hdus ≡ absences_of session.old.hdus }
 {
     let named = said_of(session, hdu, &EXTNAME)?;
     if !has_name(name, &named) {

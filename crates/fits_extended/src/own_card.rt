@@ -2,7 +2,7 @@
 ghost use Rattle.std.specs.Prelude.{◌≡◌, ◌≤◌, ◌+◌, ◌-◌, ◌<◌, ◌^◌, ◌++◌, ◌∷◌, [], IfOk, IfSome, OnOk, List, None, codes, length, take, true, unwrap_or, ℕ, Ok};
 ghost use Rattle.fits_card.specs.Name.{is_settable};
 ghost use Rattle.fits_session.specs.Away.{LieStill};
-ghost use Rattle.fits_session.specs.Session.{file_of, marked_of};
+ghost use Rattle.fits_session.specs.Session.{absences_of, file_of, marked_of};
 ghost use Rattle.fits_value.specs.Says.{field_says};
 ghost use Rattle.fits_value.specs.Spelling.{doubled};
 ghost use Rattle.fits_value.specs.Unwritable.{writable};
@@ -39,6 +39,7 @@ pub(crate) fn set_lines<H: Holder + Drop>(
         ≡ Ok (set_lines (file_of session.old) hdu word.now field.now (field_says field.now))) }
     ensures same { marked_of session.new ≡ marked_of session.old }
     ensures stays { LieStill session.old.hdus session.new.hdus }
+    ensures absences { absences_of session.new.hdus ≡ absences_of session.old.hdus }
 {
     let line = set_line(alloc, hdu, word, field)?;
     let Some((value, comment)) = read_field(alloc, field)? else {
@@ -65,6 +66,7 @@ fn place_of_lead<H: Holder + Drop>(
     ensures low { IfOk result (λ place. IfSome place (λ place. place < 2 ^ 63)) }
     ensures same { marked_of session.new ≡ marked_of session.old }
     ensures stays { LieStill session.old.hdus session.new.hdus }
+    ensures absences { absences_of session.new.hdus ≡ absences_of session.old.hdus }
 {
     let Ok(_count) = session.card_count(hdu) else {
         return Ok(None);

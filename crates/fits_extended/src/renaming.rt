@@ -3,7 +3,7 @@ ghost use Rattle.std.specs.Prelude.{◌≡◌, ◌<◌, ◌≤◌, ◌∷◌, []
 ghost use Rattle.std.specs.Option.{option_copied};
 ghost use Rattle.fits_session.specs.Away.{LieStill};
 ghost use Rattle.fits_session.specs.Query.{card_in};
-ghost use Rattle.fits_session.specs.Session.{file_of, marked_of};
+ghost use Rattle.fits_session.specs.Session.{absences_of, file_of, marked_of};
 ghost use Rattle.fits_extended.specs.Stands.{as_one, lead_among, lead_in, lead_or, rename_line, renaming_by, stood, under_name};
 ghost use Rattle.fits_extended.specs.Words.{new_name};
 
@@ -30,6 +30,7 @@ pub(crate) fn renaming<H: Holder + Drop>(
         hdu word.now (option_copied rest.entry) (new_name (option_copied rest.entry)))) }
     ensures same { marked_of session.new ≡ marked_of session.old }
     ensures stays { LieStill session.old.hdus session.new.hdus }
+    ensures absences { absences_of session.new.hdus ≡ absences_of session.old.hdus }
 {
     match new_name(rest) {
         Some(new) => rename_line(alloc, session, hdu, word, new),
@@ -51,6 +52,7 @@ fn rename_line<H: Holder + Drop>(
         ≡ as_one (rename_line (file_of session.old) hdu word.now new.now)) }
     ensures same { marked_of session.new ≡ marked_of session.old }
     ensures stays { LieStill session.old.hdus session.new.hdus }
+    ensures absences { absences_of session.new.hdus ≡ absences_of session.old.hdus }
 {
     let name = padded_name(new);
     if !name.is_settable() {
@@ -88,6 +90,7 @@ pub(crate) fn lead_of<H: Holder + Drop>(
     ensures ok { IfOk result (λ lead. lead ≡ lead_in (file_of session.old) hdu name.now) }
     ensures same { marked_of session.new ≡ marked_of session.old }
     ensures stays { LieStill session.old.hdus session.new.hdus }
+    ensures absences { absences_of session.new.hdus ≡ absences_of session.old.hdus }
 {
     let places = places_of(alloc, session, hdu, name)?;
     Ok(lead_among(session, hdu, &places))
@@ -102,6 +105,7 @@ fn lead_among<H: Holder + Drop>(
     ensures value { result ≡ lead_among (file_of session.old) hdu places.now }
     ensures same { marked_of session.new ≡ marked_of session.old }
     ensures stays { LieStill session.old.hdus session.new.hdus }
+    ensures absences { absences_of session.new.hdus ≡ absences_of session.old.hdus }
 {
     let mut rest = places;
     'places: while let Some((place, after)) = first_of(rest) {
@@ -133,6 +137,7 @@ fn valued_card<H: Holder + Drop>(session: &mut Session<H>, hdu: usize, place: us
         (card_in (file_of session.old) hdu place) others ≡ others) }
     ensures same { marked_of session.new ≡ marked_of session.old }
     ensures stays { LieStill session.old.hdus session.new.hdus }
+    ensures absences { absences_of session.new.hdus ≡ absences_of session.old.hdus }
 {
     match session.card(hdu, place) {
         Ok(card) if card.has_value() => Some(card),

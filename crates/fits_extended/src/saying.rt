@@ -2,7 +2,7 @@
 ghost use Rattle.std.specs.Prelude.{◌≡◌, IfOk};
 ghost use Rattle.fits_session.specs.Away.{LieStill};
 ghost use Rattle.fits_session.specs.Query.{positions_in, value_in};
-ghost use Rattle.fits_session.specs.Session.{file_of, marked_of};
+ghost use Rattle.fits_session.specs.Session.{absences_of, file_of, marked_of};
 ghost use Rattle.fits_extended.specs.Saying.{settled};
 ghost use Rattle.fits_extended.specs.Stands.{has_cards_in, or_none};
 
@@ -34,6 +34,7 @@ pub(crate) fn said_of<H: Holder + Drop>(
     ensures ok { IfOk result (λ said. value_in (file_of session.old) hdu name.now ≡ said) }
     ensures same { marked_of session.new ≡ marked_of session.old }
     ensures stays { LieStill session.old.hdus session.new.hdus }
+    ensures absences { absences_of session.new.hdus ≡ absences_of session.old.hdus }
 {
     settled(session.value(hdu, name))
 }

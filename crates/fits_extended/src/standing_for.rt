@@ -3,7 +3,7 @@ ghost use Rattle.std.specs.Prelude.{◌≡◌, ◌≤◌, ◌++◌, IfOk, List, 
 ghost use Rattle.std.specs.Option.{option_copied};
 ghost use Rattle.fits_session.specs.Away.{LieStill};
 ghost use Rattle.fits_session.specs.Query.{value_in};
-ghost use Rattle.fits_session.specs.Session.{file_of, marked_of};
+ghost use Rattle.fits_session.specs.Session.{absences_of, file_of, marked_of};
 ghost use Rattle.fits_script.specs.Words.{name_of_text};
 ghost use Rattle.fits_value.specs.Says.{field_says};
 ghost use Rattle.fits_extended.specs.Stands.{comment_text, commented, field_text, noted, said_for, said_in, said_next, stands_for, staying, stood, value_lines};
@@ -42,6 +42,7 @@ pub fn plain_line<H: Holder + Drop>(
     ensures err { OnErr result (may_stand line.now ≡ true) }
     ensures same { marked_of session.new ≡ marked_of session.old }
     ensures stays { LieStill session.old.hdus session.new.hdus }
+    ensures absences { absences_of session.new.hdus ≡ absences_of session.old.hdus }
 {
     if !may_stand(line) {
         return Ok(Stands::Itself);
@@ -68,6 +69,7 @@ pub(crate) fn said_in<H: Holder + Drop>(
     ensures ok { IfOk result (λ it. stood line.now it ≡ said_in (file_of session.old) line.now) }
     ensures same { marked_of session.new ≡ marked_of session.old }
     ensures stays { LieStill session.old.hdus session.new.hdus }
+    ensures absences { absences_of session.new.hdus ≡ absences_of session.old.hdus }
 {
     let (word, rest) = cut_word(line);
     let Some(verb) = extended_verb_of(word) else {
@@ -91,6 +93,7 @@ fn said_next<H: Holder + Drop>(
         ≡ said_next (file_of session.old) verb (option_copied rest.entry) (keyword_of (option_copied rest.entry))) }
     ensures same { marked_of session.new ≡ marked_of session.old }
     ensures stays { LieStill session.old.hdus session.new.hdus }
+    ensures absences { absences_of session.new.hdus ≡ absences_of session.old.hdus }
 {
     match keyword_of(rest) {
         Some((hdu, word, rest)) => said_for(alloc, session, verb, hdu, word, rest),
@@ -113,6 +116,7 @@ fn said_for<H: Holder + Drop>(
         ≡ said_for (file_of session.old) verb hdu word.now (option_copied rest.entry)) }
     ensures same { marked_of session.new ≡ marked_of session.old }
     ensures stays { LieStill session.old.hdus session.new.hdus }
+    ensures absences { absences_of session.new.hdus ≡ absences_of session.old.hdus }
 {
     match verb {
         KeywordVerb::Value => value_lines(alloc, session, hdu, word, text_of(rest)),
@@ -136,6 +140,7 @@ fn value_lines<H: Holder + Drop>(
         ≡ Ok (value_lines (file_of session.old) hdu word.now field.now (field_says field.now))) }
     ensures same { marked_of session.new ≡ marked_of session.old }
     ensures stays { LieStill session.old.hdus session.new.hdus }
+    ensures absences { absences_of session.new.hdus ≡ absences_of session.old.hdus }
 {
     let Some((_, comment)) = read_field(alloc, field)? else {
         return Ok(Stands::Line(set_line(alloc, hdu, word, field)?));
@@ -199,6 +204,7 @@ fn note_lines<H: Holder + Drop>(
         ≡ Ok (commented (file_of session.old) hdu word.now text.now (value_in (file_of session.old) hdu (name_of_text word.now)))) }
     ensures same { marked_of session.new ≡ marked_of session.old }
     ensures stays { LieStill session.old.hdus session.new.hdus }
+    ensures absences { absences_of session.new.hdus ≡ absences_of session.old.hdus }
 {
     let Ok((value, _)) = said_of(session, hdu, &padded_name(word))? else {
         return Ok(Stands::Line(get_line(alloc, hdu, word)?));

@@ -1,11 +1,12 @@
 -- An HDU whose data unit passed by: what is copied of it, and its sums.
-use Rattle.std.proofs.Common.{◌≡◌, ℕ, ◌+◌, Bool, List, ◌++◌, ◌%◌, ap, length, sym, take, refl, ◌∙◌, arith}
+use Rattle.std.proofs.Common.{◌≡◌, ℕ, ◌+◌, Bool, List, ◌++◌, ◌%◌, ap, length, sym, take, refl, ◌∙◌, arith, Option}
 use Rattle.std.proofs.Math.Seq.{take-append-add}
 use Rattle.std.proofs.lemmas.List.{length-append}
 use Rattle.fits_card.specs.Header.{Header, IsHeader, header_bytes}
 use Rattle.fits_stream.specs.Stream.{SinkState, Prints}
 use Rattle.fits_stream.proofs.StreamLemmas.{Prints-more, PrintsFront-more}
-use Rattle.fits_unit.specs.Again.{CopyFails, CopyWrites, PrintsLike}
+use Rattle.fits_unit.specs.Again.{CopyFails, CopyWrites, HasTotal, PrintsAs}
+use Rattle.fits_unit.specs.DataUnit.{Absence, IsKnown}
 use Rattle.fits_unit.specs.declared.again.CopyFault.{CopyFault}
 use Rattle.fits_unit.specs.declared.again.CopyFault.TheVariants.{Failed, Changed, Write}
 use Rattle.fits_sum.specs.OnesComplement.{ones_complement}
@@ -27,29 +28,30 @@ writes_more xs a b c Failed p q = (xs ++ q.0, Prints-more a b c xs q.0 p q.1)
 writes_more xs a b c Changed p q = (xs ++ q.0, Prints-more a b c xs q.0 p q.1)
 writes_more xs a b c Write p q = (xs ++ q.0, PrintsFront-more a b c xs q.0 p q.1)
 
--- a header, and then bytes that are as many as a data unit and have its total
-pub like_more : (header : Header) (unit : List ℕ) (a b c : SinkState) → IsHeader header → Prints (header_bytes header) a b → PrintsLike unit b c → PrintsLike (header_bytes header ++ unit) a c
-like_more header unit a b c whole p q =
+-- a header, and then bytes that are as many as a data unit, with its total where it is known
+pub like_more : (header : Header) (unit : List ℕ) (absent : Option Absence) (a b c : SinkState) → IsHeader header → Prints (header_bytes header) a b → PrintsAs (HasTotal unit absent) (length unit) b c
+    → PrintsAs (λ bytes. IsKnown absent → word_total bytes ≡ word_total (header_bytes header ++ unit)) (length (header_bytes header ++ unit)) a c
+like_more header unit absent a b c whole p q =
     let words = header_words header whole in
     record {
       like = header_bytes header ++ q.like;
       size = omega (arith, length-append (header_bytes header) q.like, length-append (header_bytes header) unit, q.size);
-      total = omega (arith, totals_add (header_bytes header) q.like words, totals_add (header_bytes header) unit words, q.total);
+      is = λ known. omega (arith, totals_add (header_bytes header) q.like words, totals_add (header_bytes header) unit words, q.is known);
       written = Prints-more a b c (header_bytes header) q.like p q.written;
     }
 
--- bytes of whole words like some, and then bytes like others
-pub like_append : (xs ys : List ℕ) (a b c : SinkState) → length xs % 4 ≡ 0 → PrintsLike xs a b → PrintsLike ys b c → PrintsLike (xs ++ ys) a c
-like_append xs ys a b c words p q = record {
+-- bytes like some, and then bytes like others
+pub like_append : (P Q R : List ℕ → Type 0) (m n : ℕ) (a b c : SinkState) → ((xs ys : List ℕ) → length xs ≡ m → length ys ≡ n → P xs → Q ys → R (xs ++ ys)) → PrintsAs P m a b → PrintsAs Q n b c → PrintsAs R (m + n) a c
+like_append P Q R m n a b c both p q = record {
   like = p.like ++ q.like;
-  size = omega (arith, length-append p.like q.like, length-append xs ys, p.size, q.size);
-  total = omega (arith, totals_add p.like q.like (omega (arith, words, p.size)), totals_add xs ys words, p.total, q.total);
+  size = omega (arith, length-append p.like q.like, p.size, q.size);
+  is = both p.like q.like p.size q.size p.is q.is;
   written = Prints-more a b c p.like q.like p.written q.written;
 }
 
--- the same, and then these
-pub like_printed : (xs ys : List ℕ) (a b c : SinkState) → length xs % 4 ≡ 0 → PrintsLike xs a b → Prints ys b c → PrintsLike (xs ++ ys) a c
-like_printed xs ys a b c words p q = like_append xs ys a b c words p (record { like = ys; size = refl; total = refl; written = q })
+-- these are like themselves
+pub like_printed : (ys : List ℕ) (a b : SinkState) → Prints ys a b → PrintsAs (λ bytes. bytes ≡ ys) (length ys) a b
+like_printed ys a b p = record { like = ys; size = refl; is = refl; written = p }
 
 -- an HDU is of whole words
 pub hdu_words : (primary : Bool) (hdu : HduParts) → IsHdu primary hdu → length (hdu_bytes hdu) % 4 ≡ 0

@@ -8,7 +8,7 @@ use Rattle.fits_header.specs.State as header
 use Rattle.fits_image.specs.Kind.{kind_in}
 use Rattle.fits_image.specs.declared.kind.Kind.{Kind}
 use Rattle.fits_plane.specs.Plane.{PlaneState}
-use Rattle.fits_unit.specs.DataUnit.{Absence, IsCounted}
+use Rattle.fits_unit.specs.DataUnit.{Absence, unit_at, IsCounted, IsKnown}
 use Rattle.fits_passing.specs.ExtensionName.{extension_name}
 use Rattle.fits_passing.specs.Hdu.{HduParts}
 use Rattle.fits_passing.specs.declared.called.ExtensionName.{ExtensionName}
@@ -25,6 +25,14 @@ pub record HduState : Type 0 where
 -- its parts: what stands in a file
 abbrev pub parts_of : HduState → HduParts
 parts_of hdu = record { header = hdu.header.header; data_unit = hdu.plane.bytes }
+
+-- the HDU in a file of these bytes: where its data unit isn't in memory it is what the file has at its place
+abbrev pub hdu_at : List ℕ → HduState → HduState
+hdu_at told hdu = record hdu { plane = record hdu.plane { bytes = unit_at told hdu.plane.bytes hdu.absent } }
+
+-- its data unit is known: in memory, or its bytes passed by
+abbrev pub IsSeen : HduState → Type 0
+IsSeen hdu = IsKnown hdu.absent
 
 -- its cards describe the shape that is kept of them
 abbrev pub IsDescribed : HduState → Type 0

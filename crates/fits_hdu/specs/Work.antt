@@ -1,5 +1,5 @@
 -- How much work the calls of an HDU are at most: cards read, blocks scanned, pixels read, nodes joined (own).
-use Rattle.std.specs.Prelude.{◌≡◌, ◌⊎◌, ℕ, ◌+◌, ◌*◌, ◌^◌, ◌≤◌, ℤ, List, ◌++◌, length, codes, false, Option, None, Some, if◌then◌else◌}
+use Rattle.std.specs.Prelude.{◌≡◌, ◌⊎◌, ℕ, ◌+◌, ◌*◌, ◌^◌, ◌≤◌, ℤ, List, ◌++◌, length, codes, true, false, Option, None, Some, if◌then◌else◌}
 use Rattle.std.specs.Ordering.{int_eq}
 use Rattle.std.specs.Option.{option_map_or}
 use Rattle.fits_value.specs.Says.{chain_length}
@@ -12,11 +12,13 @@ use Rattle.fits_pixels.specs.declared.layout.Layout.{Layout}
 use Rattle.fits_plane.specs.Work.{rectangle_blocks}
 use Rattle.fits_plane.specs.Plane.{PlaneState}
 use Rattle.fits_unit.specs.Again.{copied_blocks, IsUnitRead}
+use Rattle.fits_unit.specs.DataUnit.{opened_blocks, Absence}
 use Rattle.fits_image.specs.Kind.{offset_of}
 use Rattle.fits_image.specs.declared.kind.Kind.{Kind}
 use Rattle.fits_sum.specs.Words.{word_total}
+use Rattle.fits_passing.specs.Hdu.{hdu_bytes}
 use Rattle.fits_passing.specs.Layout.{layout_of}
-use Rattle.fits_hdu.specs.State.{HduState}
+use Rattle.fits_hdu.specs.State.{parts_of, HduState, IsSeen}
 use Rattle.fits_passing.specs.Work.{apply_reads, open_reads}
 
 -- a keyword is read by so many: the cards of its lead's value, and one
@@ -62,18 +64,25 @@ pub record IsScanned (blocks : ℕ) (work : PixelWork) : Type 0 where
   pub reads : work.reads ≡ 0
   pub joins : (d : ℕ) → blocks ≤ 2 ^ d → work.joins ≤ 2 ^ d
 
--- an HDU was opened, and so many of its cards were read more at most; each block of its data unit was scanned once, and no pixel read;
--- nobody keeps it stamped
+-- an HDU was opened, and so many of its cards were read more at most; each block of its data unit was scanned once, or none where that is
+-- unread, and no pixel read; nobody keeps it stamped
 pub record IsOpened (more : ℕ) (hdu : HduState) : Type 0 where
   pub reads : hdu.header.reads ≤ open_reads hdu.header.header.cards + more
-  pub scans : IsScanned (block_count hdu.plane.bytes) (plane_work hdu.plane)
+  pub scans : IsScanned (opened_blocks hdu.plane.bytes hdu.absent) (plane_work hdu.plane)
   pub kept : hdu.kept ≡ false
 
--- an HDU was opened as its data unit passed by: that lies at this place, and its statistics are known
-pub record IsKnownAt (place : ℕ) (hdu : HduState) : Type 0 where
+-- a data unit lies at this place, and where it is known its statistics are too
+pub record IsFrom (place : ℕ) (hdu : HduState) (it : Absence) : Type 0 where
+  pub away : hdu.absent ≡ Some it
+  pub place_is : it.place ≡ place
+  pub blank : it.known ≡ true → it.blank ≡ hdu.plane.layout.blank
+
+-- an HDU was opened whose data unit lies there
+pub record IsOpenedAt (place : ℕ) (hdu : HduState) : Type 0 where
   pub opened : IsOpened 0 hdu
   pub entry : hdu.entry ≡ None
-  pub lies : hdu.absent ≡ Some (record { place = place; blank = hdu.plane.layout.blank })
+  pub absence : Absence
+  pub from : IsFrom place hdu absence
 
 -- a data unit of so many blocks was made: each was scanned once at most, and no pixel read
 pub record IsMade (blocks : ℕ) (work : PixelWork) : Type 0 where
@@ -126,13 +135,17 @@ pub record IsLoaded (blocks : ℕ) (old new : PixelWork) : Type 0 where
   pub more_joins : old.joins ≤ new.joins
   pub joins : (d : ℕ) → blocks ≤ 2 ^ d → new.joins ≤ old.joins + 2 ^ d
 
--- the data unit of an HDU was loaded, or stays where it is: it is as long and has the same total; nothing else changes, and each of its
--- blocks was scanned once more at most
+-- the data unit of an HDU was loaded, or came to be known, or stays as it is: it is as long and, where it was known, has the same total;
+-- nothing else changes, and each of its blocks was scanned once more at most
 pub record Loads (old new : HduState) : Type 0 where
-  pub total : word_total new.plane.bytes ≡ word_total old.plane.bytes
+  pub total : IsSeen old → word_total new.plane.bytes ≡ word_total old.plane.bytes
   pub size : length new.plane.bytes ≡ length old.plane.bytes
   pub rest : new ≡ record old { plane = new.plane; absent = new.absent }
   pub work : IsLoaded (block_count old.plane.bytes) (plane_work old.plane) (plane_work new.plane)
+
+-- bytes have the total of an HDU whose data unit is known
+abbrev pub HasHduTotal : HduState → List ℕ → Type 0
+HasHduTotal one bytes = IsSeen one → word_total bytes ≡ word_total (hdu_bytes (parts_of one))
 
 -- an HDU was written: exactly its header, and then its data unit, that in memory or what the reads from its place on gave
 pub record WritesHdu (one : HduState) (log log' : ReadLogState) (old new : SinkState) : Type 0 where

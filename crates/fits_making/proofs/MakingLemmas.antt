@@ -141,15 +141,16 @@ makes_not stamps kept made NeedsMemory reads Works bytes hdus old new why whole 
   room = room;
   described = lasts.described;
   entry = lasts.entry;
-  had = had_same old new lasts.absent (ap (λ (hdu : HduParts). hdu.data_unit) same);
+  absent = lasts.absent;
+  had = had_same old new lasts.absent (ap (λ (hdu : HduParts). hdu.data_unit) same) lasts.kept;
 }
 
 -- what is made owes this, and the stamp that follows where the HDU is kept
 pub makes : {X : Type 0} (stamps : Bool) (made : Result HduParts Refusal) (NeedsMemory : Option Refusal → Type 0) (reads : ℕ) (Works Idles : PixelWork → PixelWork → Type 0) (bytes hdus : ℕ) (old mid new : HduState) (x : X)
     → IsHdu (is_primary old.header.shape.class) (parts_of old) → IsHdu (is_primary old.header.shape.class) (parts_of mid) → made ≡ Ok (parts_of mid) → limit_refusal (length_with bytes (parts_of old) (padded_if stamps (parts_of mid))) hdus ≡ None
-    → old.header.reads ≤ mid.header.reads → mid.header.reads ≤ old.header.reads + reads → Works (plane_work old.plane) (plane_work mid.plane) → mid.entry ≡ old.entry → mid.kept ≡ stamps → StaysHad old mid → IsFinished stamps mid new
+    → old.header.reads ≤ mid.header.reads → mid.header.reads ≤ old.header.reads + reads → Works (plane_work old.plane) (plane_work mid.plane) → mid.entry ≡ old.entry → mid.kept ≡ stamps → StaysHad old mid → mid.absent ≡ old.absent → IsFinished stamps mid new
     → HduMakes {X = X} stamps stamps made NeedsMemory reads Works Idles bytes hdus old new (Ok x)
-makes stamps made NeedsMemory reads Works Idles bytes hdus old mid new x whole left is limits least most works entry kept stays f =
+makes stamps made NeedsMemory reads Works Idles bytes hdus old mid new x whole left is limits least most works entry kept stays place f =
     let primary : Bool = is_primary old.header.shape.class in
     let short = finished_short stamps primary (parts_of mid) left in
     let long : length (hdu_bytes (parts_of new)) ≡ length (hdu_bytes (stamped_if stamps (parts_of mid))) = ap (λ (hdu : HduParts). length (hdu_bytes hdu)) f.hdu in
@@ -171,6 +172,7 @@ makes stamps made NeedsMemory reads Works Idles bytes hdus old mid new x whole l
       room = tt;
       described = f.described;
       entry = f.entry ∙ entry;
+      absent = f.absent ∙ place;
       had = λ holding p. f.had holding (stays holding p);
     }
 
@@ -218,7 +220,7 @@ changes_made change bytes hdus old mid new x whole described inner kept limits i
     (subst (λ (hdu : HduParts). IsHdu primary hdu) (sym is) (kept_whole primary (parts_of old) change whole inner kept))
     (done ∙ ap (λ (hdu : HduParts). let made : Result HduParts Refusal = Ok hdu in made) (sym is))
     (subst (λ (hdu : HduParts). limit_refusal (length_with bytes (parts_of old) (padded_if old.kept hdu)) hdus ≡ None) (sym is) limits)
-    least most work entry mark (had_same old mid place (ap (λ (hdu : HduParts). hdu.data_unit) is)) finished
+    least most work entry mark (had_same old mid place (ap (λ (hdu : HduParts). hdu.data_unit) is) mark) place finished
 
 -- memory may run out before the size is known
 needs_sized : (b : Bool) → CardsNeedMemory (if b then None else Some refusal.TooLarge)
@@ -343,5 +345,6 @@ cards_made edit change bytes hdus old left new result described r made p =
       room = rw r.header.room at p.room;
       described = p.described;
       entry = p.entry ∙ r.entry;
+      absent = p.absent ∙ r.absent;
       had = λ holding it. p.had holding (had_read old left _ r holding it);
     }

@@ -201,7 +201,8 @@ reshapes_not kind axes bytes hdus most spare old new why whole described e part 
       room = room;
       described = lasts.described;
       entry = lasts.entry;
-      had = had_same old new lasts.absent (ap (λ (hdu : HduParts). hdu.data_unit) same);
+      absent = lasts.absent;
+      had = had_same old new lasts.absent (ap (λ (hdu : HduParts). hdu.data_unit) same) lasts.kept;
     }
 
 -- where nothing is done, no pixel is read
@@ -212,9 +213,9 @@ read_none kept work = record { more_reads = omega arith; reads = omega arith; sc
 pub reshapes : {X : Type 0} (kind : Kind) (axes : List ℕ) (bytes hdus most spare : ℕ) (old mid new : HduState) (x : X) → IsHdu (is_primary old.header.shape.class) (parts_of old) → shape_of (is_primary old.header.shape.class) old.header.header.cards ≡ Ok old.header.shape
     → spare ≡ spare_cards old.kept → length (hdu_bytes (parts_of old)) ≤ bytes → is_within_limits bytes hdus ≡ true → most + (bytes - length (hdu_bytes (parts_of old))) ≡ FILE_LIMIT → reshaped kind axes old.header.shape (parts_of old) ≡ Ok (parts_of mid) → length_spared spare (parts_of mid) ≤ most
     → old.header.reads ≤ mid.header.reads → mid.header.reads ≤ old.header.reads + reshape_reads (array_kind old.header.shape old.header.header.cards) kind axes old.header.header.cards
-    → IsRenewed (kept_count old.header.shape.axes axes) (block_count mid.plane.bytes) (plane_work old.plane) (plane_work mid.plane) → mid.entry ≡ old.entry → mid.kept ≡ old.kept → mid.absent ≡ None → IsFinished old.kept mid new → HduEditsTo {X = X} (Reshape kind axes) bytes hdus old new (Ok x)
+    → IsRenewed (kept_count old.header.shape.axes axes) (block_count mid.plane.bytes) (plane_work old.plane) (plane_work mid.plane) → mid.entry ≡ old.entry → mid.kept ≡ old.kept → mid.absent ≡ None → mid.absent ≡ old.absent → IsFinished old.kept mid new → HduEditsTo {X = X} (Reshape kind axes) bytes hdus old new (Ok x)
 unfolding hdu_made
-reshapes kind axes bytes hdus most spare old mid new x whole described e part within is ok small least few renewed entry kept held finished =
+reshapes kind axes bytes hdus most spare old mid new x whole described e part within is ok small least few renewed entry kept held place finished =
     let primary : Bool = is_primary old.header.shape.class in
     let left = (reshaped_is_hdu primary kind axes old.header.shape (parts_of old) (parts_of mid) whole described ok).0 in
     let made : hdu_reshaped (shape_of primary old.header.header.cards) kind axes (parts_of old) ≡ Ok (parts_of mid) = made_by (shape_of primary old.header.header.cards) old.header.shape kind axes (parts_of old) described ∙ ap reshape_made ok in
@@ -222,4 +223,4 @@ reshapes kind axes bytes hdus most spare old mid new x whole described e part wi
     (short_enough old.kept primary bytes hdus most spare (parts_of old) (parts_of mid) left e part is within small) least (omega (arith, few, reads_are primary old.header.shape kind axes (parts_of old) described))
     (renews_by (shape_of primary old.header.header.cards) old.header.shape axes (made_or (parts_of old) (hdu_reshaped (shape_of primary old.header.header.cards) kind axes (parts_of old))) (plane_work old.plane) (plane_work mid.plane) described
     (subst (λ (hdu : HduParts). IsRenewed (kept_count old.header.shape.axes axes) (block_count hdu.data_unit) (plane_work old.plane) (plane_work mid.plane)) (sym (ap (made_or (parts_of old)) made)) renewed))
-    entry kept (λ holding p. had_held holding mid held) finished
+    entry kept (λ holding p. had_held holding mid held) place finished

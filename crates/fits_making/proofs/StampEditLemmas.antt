@@ -5,7 +5,8 @@ use Rattle.fits_card.specs.Header.{header_length}
 use Rattle.fits_rules.specs.Class.{is_primary}
 use Rattle.fits_passing.specs.Hdu.{HduParts, hdu_bytes, IsHdu}
 use Rattle.fits_hdu.specs.Stamp.{stamped}
-use Rattle.fits_hdu.specs.State.{HduState, parts_of}
+use Rattle.fits_hdu.specs.State.{HduState, parts_of, IsSeen}
+use Rattle.fits_unit.specs.DataUnit.{IsKnown}
 use Rattle.fits_passing.specs.Sums.{verdicts_of}
 use Rattle.fits_hdu.specs.Work.{plane_work, stamp_count_reads, stamp_reads}
 use Rattle.fits_hdu.proofs.StampingLemmas.{stamped_is_hdu, stamped_unit}
@@ -59,7 +60,8 @@ stamps bytes hdus old new x whole within is least most idle lasts =
       room = tt;
       described = lasts.described;
       entry = lasts.entry;
-      had = had_same old new lasts.absent (ap (λ (hdu : HduParts). hdu.data_unit) is ∙ stamped_unit (parts_of old));
+      absent = lasts.absent;
+      had = had_same old new lasts.absent (ap (λ (hdu : HduParts). hdu.data_unit) is ∙ stamped_unit (parts_of old)) lasts.kept;
     }
 
 -- an HDU that isn't stamped isn't kept either
@@ -83,13 +85,14 @@ keeps_not bytes hdus old new why p = record {
   room = p.room;
   described = p.described;
   entry = p.entry;
+  absent = p.absent;
   had = p.had;
 }
 
 -- one that is stamped may be kept, and its sums are right
-pub keeps : {X : Type 0} (bytes hdus : ℕ) (old mid new : HduState) (x : X) → HduEditsTo {X = X} Stamp bytes hdus old mid (Ok x) → new ≡ record mid { kept = true } → HduEditsTo {X = X} Keep bytes hdus old new (Ok x)
+pub keeps : {X : Type 0} (bytes hdus : ℕ) (old mid new : HduState) (x : X) → IsSeen old → HduEditsTo {X = X} Stamp bytes hdus old mid (Ok x) → new ≡ record mid { kept = true } → HduEditsTo {X = X} Keep bytes hdus old new (Ok x)
 unfolding hdu_made
-keeps bytes hdus old mid new x p is =
+keeps bytes hdus old mid new x known p is =
     let stamp : parts_of mid ≡ stamped (parts_of old) = let made = p.ok in (cc) in
     let made : HduEditsTo Keep bytes hdus old (record mid { kept = true }) (Ok x) = record {
       whole = p.whole;
@@ -109,7 +112,8 @@ keeps bytes hdus old mid new x p is =
       room = tt;
       described = p.described;
       entry = p.entry;
-      had = λ holding it. let left = p.had holding it in record { held = left.held; lies = left.lies };
+      absent = p.absent;
+      had = λ holding it. let left = p.had holding it in record { held = left.held; lies = left.lies; kept = λ on. subst IsKnown (sym p.absent) known };
     } in
     subst (λ (hdu : HduState). HduEditsTo Keep bytes hdus old hdu (Ok x)) (sym is) made
 
@@ -138,6 +142,7 @@ releases bytes hdus old new x whole lasts part within is =
       room = tt;
       described = lasts.described;
       entry = refl;
-      had = λ holding it. record { held = it.held; lies = it.lies };
+      absent = refl;
+      had = λ holding it. record { held = it.held; lies = it.lies; kept = λ on. cc };
     } in
     subst (λ (hdu : HduState). HduEditsTo Release bytes hdus old hdu (Ok x)) (sym is) made

@@ -81,11 +81,13 @@ hdu_made primary Stamp hdu = Ok (stamped hdu)
 hdu_made primary Keep hdu = Ok (stamped hdu)
 hdu_made primary Release hdu = Ok hdu
 
--- whether an edit needs the pixels of its HDU
-abbrev pub needs_pixels : HduEdit → Bool
-needs_pixels (Pixels lo hi paint) = true
-needs_pixels (Reshape kind axes) = true
-needs_pixels edit = false
+-- whether an edit needs the data of its HDU: pixels, or what is known of them
+abbrev pub needs_data : HduEdit → Bool
+needs_data (Pixels lo hi paint) = true
+needs_data (Reshape kind axes) = true
+needs_data Stamp = true
+needs_data Keep = true
+needs_data edit = false
 
 -- the cards and names that it brings have their sizes
 abbrev pub HasHduSizes : HduEdit → Type 0

@@ -11,7 +11,7 @@ use Rattle.fits_rules.specs.declared.array_shape.Shape.{Shape}
 use Rattle.fits_passing.specs.Hdu.{HduParts, hdu_bytes, IsHdu}
 use Rattle.fits_header.specs.Work.{shape_reads}
 use Rattle.fits_passing.specs.Layout.{layout_of}
-use Rattle.fits_hdu.specs.State.{HduState, parts_of, IsDescribed, HasPixels}
+use Rattle.fits_hdu.specs.State.{HduState, parts_of, IsDescribed, HasPixels, IsSeen}
 use Rattle.fits_hdu.specs.Reshape.{kept_count}
 use Rattle.fits_passing.specs.Work.{apply_reads}
 use Rattle.fits_hdu.specs.Work.{plane_work, FollowsBlank, IsPatched, IsRenewed, PixelWork}
@@ -20,7 +20,7 @@ use Rattle.fits_making.specs.Keeping.{kept_after, padded_if, stamp_follows, stam
 use Rattle.fits_making.specs.Refusal.{limit_refusal, ChangeNeedsMemory, Fails, HduNeedsMemory, OrStampNeedsMemory}
 use Rattle.fits_making.specs.Work.{follow_up_reads, hdu_reads}
 use Rattle.fits_edit.specs.declared.hdu_edit.HduEdit.{HduEdit}
-use Rattle.fits_edit.specs.declared.hdu_edit.HduEdit.TheVariants.{Pixels, Reshape}
+use Rattle.fits_edit.specs.declared.hdu_edit.HduEdit.TheVariants.{Keep, Pixels, Reshape, Stamp}
 use Rattle.fits_making.specs.declared.refusal.Refusal.{Refusal}
 
 -- how the data units of a session are had: whether all of them are in memory, and the bytes of the file that the others lie in, where it
@@ -29,10 +29,11 @@ pub record Holding : Type 0 where
   pub whole : Bool
   pub told : Option (List ℕ)
 
--- that of an HDU is had so
+-- that of an HDU is had so; where the HDU is kept stamped it is known
 pub record IsHad (holding : Holding) (one : HduState) : Type 0 where
   pub held : holding.whole ≡ true → one.absent ≡ None
   pub lies : IfSome holding.told (λ bytes. LiesIn bytes one.plane one.absent)
+  pub kept : one.kept ≡ true → IsSeen one
 
 -- the number that BLANK names, by the shape that cards describe
 abbrev pub blank_of : Result Shape ℕ → List (List ℕ) → Option ℤ
@@ -82,10 +83,13 @@ StaysHad old new = (holding : Holding) → IsHad holding old → IsHad holding n
 abbrev pub HasArray : HduState → Type 0
 HasArray one = (bits : ℕ) → array_bits one.header.shape ≡ Some bits → one.absent ≡ None
 
--- the pixels that an edit of an HDU wants are in memory: those of an image, and for a reshape those of an array
+-- the pixels that an edit of an HDU wants are in memory: those of an image, and for a reshape those of an array; for a stamp its data are
+-- known
 abbrev pub IsReadyTo : HduEdit → HduState → Type 0
 IsReadyTo (Pixels lo hi paint) one = HasPixels one
 IsReadyTo (Reshape kind axes) one = HasArray one
+IsReadyTo Stamp one = IsSeen one
+IsReadyTo Keep one = IsSeen one
 IsReadyTo edit one = Unit {0}
 
 -- how many bytes a file of so many has with another HDU in place of one
@@ -120,6 +124,7 @@ pub record HduMakes {X : Type 0} (stamps kept : Bool) (made : Result HduParts Re
   pub room : OnErr result (new.header.room ≡ old.header.room)
   pub described : IsDescribed new
   pub entry : new.entry ≡ old.entry
+  pub absent : new.absent ≡ old.absent
   pub had : StaysHad old new
 
 -- the stamp was made that follows an edit of an HDU, where one does; else it is as the edit left it
@@ -131,6 +136,7 @@ pub record IsFinished (stamps : Bool) (old new : HduState) : Type 0 where
   pub entry : new.entry ≡ old.entry
   pub kept : new.kept ≡ old.kept
   pub described : IsDescribed new
+  pub absent : new.absent ≡ old.absent
   pub had : StaysHad old new
 
 -- an edit of an HDU owes this

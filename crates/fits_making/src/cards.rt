@@ -4,7 +4,7 @@ ghost use Rattle.std.specs.Prelude.{◌≡◌, ◌≤◌, ◌<◌, ◌+◌, ◌-
 ghost use Rattle.fits_card.specs.Change.{new_cards, IsInRange};
 ghost use Rattle.fits_card.specs.Header.{header_length, IsInnerCard};
 ghost use Rattle.fits_passing.specs.Hdu.{hdu_bytes};
-ghost use Rattle.fits_hdu.specs.State.{parts_of};
+ghost use Rattle.fits_hdu.specs.State.{parts_of, IsSeen};
 ghost use Rattle.fits_passing.specs.Limits.{is_within_limits};
 ghost use Rattle.fits_making.specs.Making.{ChangesTo, HduEditsTo};
 ghost use Rattle.fits_passing.specs.declared.limits.TheConstants.{FILE_LIMIT};
@@ -26,6 +26,7 @@ pub(crate) fn edit_cards(
     hdus: u64,
     edit: &CardEdit,
 ) -> Result<(), Refusal>
+    requires known { hdu.old.kept ≡ true → IsSeen hdu.old }
     requires part { length (hdu_bytes (parts_of hdu.old)) ≤ len }
     requires within { is_within_limits len hdus ≡ true }
     ensures { HduEditsTo (HduEdit.Cards edit.now) len hdus hdu.old hdu.new result }
@@ -43,6 +44,7 @@ fn make_change(
     len: u64,
     hdus: u64,
 ) -> Result<(), Refusal>
+    requires known { hdu.old.kept ≡ true → IsSeen hdu.old }
     requires in_range { IsInRange hdu.old.header.header.cards change.now }
     requires inner { All IsInnerCard (new_cards change.now) }
     requires part { length (hdu_bytes (parts_of hdu.old)) ≤ len }

@@ -2,7 +2,7 @@
 //! anything changes.
 ghost use Rattle.std.specs.Prelude.{◌≡◌, ◌≤◌, ◌-◌, ◌^◌, true, is_some, length, IfOk, OnErr};
 ghost use Rattle.fits_passing.specs.Hdu.{hdu_bytes};
-ghost use Rattle.fits_hdu.specs.State.{parts_of};
+ghost use Rattle.fits_hdu.specs.State.{parts_of, IsSeen};
 ghost use Rattle.fits_making.specs.Keeping.{spare_cards};
 ghost use Rattle.fits_passing.specs.Limits.{is_within_limits};
 ghost use Rattle.fits_making.specs.Making.{HduEditsTo, IsFinished};
@@ -15,6 +15,7 @@ use std::alloc::{AllocError, Global};
 
 /// Stamps an HDU in a file of so many bytes and HDUs, and keeps it stamped from now on.
 pub(crate) fn keep(alloc: Global, hdu: &mut Hdu, len: u64, hdus: u64) -> Result<(), Refusal>
+    requires known { IsSeen hdu.old }
     requires part { length (hdu_bytes (parts_of hdu.old)) ≤ len }
     requires within { is_within_limits len hdus ≡ true }
     ensures { HduEditsTo HduEdit.Keep len hdus hdu.old hdu.new result }
@@ -56,6 +57,7 @@ pub(crate) fn stamp_cards(alloc: Global, hdu: &Hdu) -> Result<Option<StampCards>
 
 /// Makes that stamp, where there are cards for it. It takes no memory.
 pub(crate) fn finish(hdu: &mut Hdu, cards: Option<StampCards>)
+    requires known { is_some cards ≡ true → IsSeen hdu.old }
     requires small { length (hdu_bytes (parts_of hdu.old)) ≤ 2 ^ 34 - 2 ^ 13 }
     requires room { spare_cards (is_some cards) ≤ hdu.old.header.room }
     ensures { IsFinished (is_some cards) hdu.old hdu.new }

@@ -1,7 +1,7 @@
 //! An edit of one HDU, whatever file it stands in.
 ghost use Rattle.std.specs.Prelude.{◌≡◌, ◌≤◌, ◌^◌, true, length, IfOk};
 ghost use Rattle.fits_passing.specs.Hdu.{hdu_bytes};
-ghost use Rattle.fits_hdu.specs.State.{parts_of};
+ghost use Rattle.fits_hdu.specs.State.{parts_of, IsSeen};
 ghost use Rattle.fits_passing.specs.Limits.{is_within_limits};
 ghost use Rattle.fits_making.specs.Making.{length_with, HduEditsTo, IsReadyTo};
 
@@ -27,6 +27,7 @@ pub fn edit_hdu(
     requires part { length (hdu_bytes (parts_of hdu.old)) ≤ len }
     requires within { is_within_limits len hdus ≡ true }
     requires ready { IsReadyTo edit.now hdu.old }
+    requires kept { hdu.old.kept ≡ true → IsSeen hdu.old }
     ensures edits { HduEditsTo edit.now len hdus hdu.old hdu.new result }
     ensures len { IfOk result (λ after. after
         ≡ length_with len (parts_of hdu.old) (parts_of hdu.new)) }
@@ -47,6 +48,7 @@ fn make_edit(
     requires part { length (hdu_bytes (parts_of hdu.old)) ≤ len }
     requires within { is_within_limits len hdus ≡ true }
     requires ready { IsReadyTo edit.now hdu.old }
+    requires kept { hdu.old.kept ≡ true → IsSeen hdu.old }
     ensures { HduEditsTo edit.now len hdus hdu.old hdu.new result }
 {
     match edit {

@@ -1,7 +1,7 @@
 //! Edits of pixels: their tests, and then the pixels are painted.
 ghost use Rattle.std.specs.Prelude.{◌≡◌, ◌≤◌, true, length};
 ghost use Rattle.fits_passing.specs.Hdu.{hdu_bytes};
-ghost use Rattle.fits_hdu.specs.State.{parts_of};
+ghost use Rattle.fits_hdu.specs.State.{parts_of, IsSeen};
 ghost use Rattle.fits_passing.specs.Limits.{is_within_limits};
 ghost use Rattle.fits_hdu.specs.State.{HasPixels};
 ghost use Rattle.fits_making.specs.Making.{HduEditsTo};
@@ -25,6 +25,7 @@ pub(crate) fn paint_pixels(
     paint: &Paint,
 ) -> Result<(), Refusal>
     requires held { HasPixels hdu.old }
+    requires known { hdu.old.kept ≡ true → IsSeen hdu.old }
     requires part { length (hdu_bytes (parts_of hdu.old)) ≤ len }
     requires within { is_within_limits len hdus ≡ true }
     ensures { HduEditsTo (HduEdit.Pixels lo.now hi.now paint.now) len hdus hdu.old hdu.new result }
@@ -50,6 +51,7 @@ fn paint_kept(
 ) -> Result<(), Refusal>
     requires kept { hdu.old.kept ≡ true }
     requires held { HasPixels hdu.old }
+    requires known { hdu.old.kept ≡ true → IsSeen hdu.old }
     requires part { length (hdu_bytes (parts_of hdu.old)) ≤ len }
     requires within { is_within_limits len hdus ≡ true }
     ensures { HduEditsTo (HduEdit.Pixels lo.now hi.now paint.now) len hdus hdu.old hdu.new result }

@@ -1,7 +1,7 @@
 //! Making an array of integers another: its own tests and the limit, and then it is made.
 ghost use Rattle.std.specs.Prelude.{◌≡◌, ◌≤◌, true, length};
 ghost use Rattle.fits_passing.specs.Hdu.{hdu_bytes};
-ghost use Rattle.fits_hdu.specs.State.{parts_of};
+ghost use Rattle.fits_hdu.specs.State.{parts_of, IsSeen};
 ghost use Rattle.fits_passing.specs.Limits.{is_within_limits};
 ghost use Rattle.fits_making.specs.Making.{HasArray, HduEditsTo};
 
@@ -25,6 +25,7 @@ pub(crate) fn reshape(
     axes: &Axes,
 ) -> Result<(), Refusal>
     requires held { HasArray hdu.old }
+    requires known { hdu.old.kept ≡ true → IsSeen hdu.old }
     requires part { length (hdu_bytes (parts_of hdu.old)) ≤ len }
     requires within { is_within_limits len hdus ≡ true }
     ensures { HduEditsTo (HduEdit.Reshape kind axes.now) len hdus hdu.old hdu.new result }

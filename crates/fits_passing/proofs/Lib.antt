@@ -6,6 +6,7 @@ pub mod HduLemmas
 pub mod HeadedLemmas
 pub mod HeadersLemmas
 pub mod LayoutLemmas
+pub mod MetLemmas
 pub mod NameCountLemmas
 pub mod NameLemmas
 pub mod PassedLemmas
@@ -14,6 +15,8 @@ pub mod ReadingLemmas
 pub mod ReportLemmas
 pub mod ShapeLemmas
 pub mod StatsLemmas
+pub mod StoredLemmas
+pub mod StoredWalkLemmas
 pub mod SumFacts
 pub mod SumLemmas
 pub mod WalkLemmas

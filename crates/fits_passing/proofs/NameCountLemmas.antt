@@ -1,5 +1,5 @@
 -- A table of names, and how many are called each.
-use Rattle.std.proofs.Common.{◌≡◌, ℕ, ◌+◌, cond, List, [], ◌∷◌, ◌++◌, length, ap, ◌∙◌, arith, Option, ◌<◌, ◌^◌, not, refl, sym, subst, inl, inr, Some, zero, suc}
+use Rattle.std.proofs.Common.{◌≡◌, ℕ, ◌+◌, cond, List, [], ◌∷◌, ◌++◌, ap, ◌∙◌, arith, Option, ◌<◌, ◌^◌, not, refl, sym, subst, inl, inr, Some, zero, suc}
 use Rattle.std.specs.List.{sum_by, position_or_len, slice_get, IsDistinct}
 use Rattle.std.proofs.lemmas.List.Sums.{length-filter, sum_by_push, sum_by-cons}
 use Rattle.fits_passing.specs.declared.called.ExtensionName.{ExtensionName}

@@ -1,5 +1,5 @@
 -- How an HDU is read from a source, whatever is kept of it (own).
-use Rattle.std.specs.Prelude.{◌≡◌, ◌≤◌, ℕ, ◌+◌, Bool, List, length, Ok, Option, None, Some}
+use Rattle.std.specs.Prelude.{◌≡◌, ℕ, Bool, List, length, Ok, Option, None, Some}
 use Rattle.fits_card.specs.Header.{Header, AreFrontCards, header_bytes}
 use Rattle.fits_stream.specs.Gave.{FindsAll}
 use Rattle.fits_stream.specs.Intake.{Supply, Takes}
@@ -10,19 +10,15 @@ use Rattle.fits_stream.specs.declared.reading.ReadFault.{ReadFault}
 use Rattle.fits_stream.specs.declared.reading.ReadFault.TheVariants as read
 use Rattle.fits_rules.specs.Class.{is_primary}
 use Rattle.fits_rules.specs.Shape.{shape_of}
-use Rattle.fits_rules.specs.Size.{data_length}
 use Rattle.fits_rules.specs.declared.array_shape.Shape.{Shape}
 use Rattle.fits_rules.specs.declared.mandatory.ShapeFault.{ShapeFault}
 use Rattle.fits_rules.specs.declared.mandatory.ShapeFault.TheVariants as shape
-use Rattle.fits_header.specs.State.{HeaderState}
 use Rattle.fits_unit.specs.Passing.{PassedState}
 use Rattle.fits_passing.specs.Hdu.{HduParts, HasHduFault, IsHdu, hdu_bytes}
-use Rattle.fits_passing.specs.Layout.{layout_of}
 use Rattle.fits_passing.specs.declared.hdu_fault.HduFault.{HduFault}
 use Rattle.fits_passing.specs.declared.hdu_fault.HduFault.TheVariants.{NoEnd, BadShape, Memory}
 use Rattle.fits_passing.specs.declared.read_hdu_fault.ReadHduFault.{ReadHduFault}
 use Rattle.fits_passing.specs.declared.read_hdu_fault.ReadHduFault.TheVariants.{Hdu, Failed}
-use Rattle.fits_passing.specs.Work.{apply_reads, open_reads}
 
 -- the header's fault
 abbrev pub of_read_header : ReadHeaderFault → ReadHduFault
@@ -79,12 +75,3 @@ CardsCome primary cards (Some why) old new = FindsAll old new (FailsAfter primar
 -- the parts of an HDU by its header and its data unit, whose bytes passed by
 abbrev pub passed_parts : Header → PassedState → HduParts
 passed_parts header unit = record { header = header; data_unit = unit.bytes }
-
--- an HDU passed by: its header is kept, with what is kept beside its cards, and what is known of its data unit, which was read as they say
-pub record IsPassedWhole (header : HeaderState) (unit : PassedState) (hdu : HduParts) : Type 0 where
-  pub parts : passed_parts header.header unit ≡ hdu
-  pub described : shape_of (is_primary header.shape.class) header.header.cards ≡ Ok header.shape
-  pub size : length unit.bytes ≡ data_length header.shape
-  pub layout : unit.layout ≡ layout_of header.shape header.header.cards
-  pub blank : unit.blank ≡ unit.layout.blank
-  pub reads : header.reads + apply_reads ≤ open_reads header.header.cards + 1

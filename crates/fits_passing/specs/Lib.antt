@@ -6,6 +6,7 @@ pub mod HduReading
 pub mod Headers
 pub mod Layout
 pub mod Limits
+pub mod Met
 pub mod NameCounts
 pub mod Opening
 pub mod Passing

@@ -1,5 +1,5 @@
 -- How many cards are read at most as an HDU is opened, and as its cards change (own).
-use Rattle.std.specs.Prelude.{◌≡◌, ℕ, ◌+◌, ◌*◌, List, length}
+use Rattle.std.specs.Prelude.{ℕ, ◌+◌, ◌*◌, List, length}
 use Rattle.fits_header.specs.Work.{mark_reads}
 
 -- what is read after a change of the cards: the leads of BZERO, BSCALE, BLANK, DATASUM and CHECKSUM

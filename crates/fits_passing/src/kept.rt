@@ -8,7 +8,6 @@ use crate::found_cards::FoundCards;
 use crate::hdu_stats::HduStats;
 use crate::hdu_sums::HduSums;
 use crate::outline::Outline;
-use crate::passed_hdu::PassedHdu;
 use crate::read_hdu_fault::ReadHduFault;
 use fits_stream::{Intake, Source};
 use std::alloc::Global;
@@ -30,21 +29,6 @@ pub trait Kept {
             (supply (R.state source.old) intake.old) (supply (R.state source.new) intake.new)) }
         ensures err { IfErr result (HduStops primary
             (supply (R.state source.old) intake.old) (supply (R.state source.new) intake.new)) };
-}
-
-impl Kept for PassedHdu {
-    ghost use Rattle.fits_passing.specs.HduReading.{IsPassedWhole};
-
-    ghost keeps = { λ it hdu. IsPassedWhole it.header it.unit hdu };
-
-    fn read_next<R: Source>(
-        alloc: Global,
-        intake: &mut Intake,
-        source: &mut R,
-        primary: bool,
-    ) -> Result<PassedHdu, ReadHduFault> {
-        PassedHdu::read(alloc, intake, source, primary)
-    }
 }
 
 impl Kept for Outline {

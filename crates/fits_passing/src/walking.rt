@@ -154,8 +154,8 @@ pub(crate) fn begins_extension(bytes: &[u8]) -> bool
     bytes.starts_with(b"XTENSION")
 }
 
-// The fault of HDU h as the file's.
-fn file_fault(fault: ReadHduFault, h: usize) -> ReadFileFault
+/// The fault of HDU h as the file's.
+pub(crate) fn file_fault(fault: ReadHduFault, h: usize) -> ReadFileFault
     ensures { result ≡ file_fault_of fault h }
 {
     match fault {

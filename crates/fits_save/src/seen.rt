@@ -36,11 +36,24 @@ impl Seen {
         self.device == about.dev() && self.inode == about.ino()
     }
 
+    /// Whether the bytes of the file that was opened are as they were, as far as the system tells: a
+    /// file that has another name by then, or other rights, is as it was.
+    pub fn is_as_it_was(&self, file: &File) -> bool {
+        match file.metadata() {
+            Ok(about) => self.has_bytes(&about),
+            Err(_) => true,
+        }
+    }
+
     /// Whether this is that file, and as it was.
     pub(crate) fn is_still(&self, about: &Metadata) -> bool {
         self.is_of(about)
-            && self.len == about.len()
-            && self.modified == (about.mtime(), about.mtime_nsec())
+            && self.has_bytes(about)
             && self.changed == (about.ctime(), about.ctime_nsec())
+    }
+
+    // Whether it has the same length, and was not written since.
+    fn has_bytes(&self, about: &Metadata) -> bool {
+        self.len == about.len() && self.modified == (about.mtime(), about.mtime_nsec())
     }
 }

@@ -1,87 +1,66 @@
 -- Data units that lie in a stored file, and what loading one leaves.
-use Rattle.std.proofs.Common.{All, ◌≡◌, ℕ, ◌+◌, ◌≤◌, List, [], ◌∷◌, ◌++◌, length, map, take, drop, set, refl, ap, sym, subst, ◌∙◌, arith, Option, None, Some, suc, true, zero, add-one}
-use Rattle.std.specs.Prelude.{Err, Ok, OnErr, OnOk, Result, false, is_some}
-use Rattle.std.proofs.Math.Seq.{drop-append-add, take-append_seam}
-use Rattle.std.proofs.lemmas.List.{append_assoc, length-append, length-set, map-append, set-get_or}
+use Rattle.std.proofs.Common.{All, ◌≡◌, ℕ, ◌+◌, ◌<◌, ◌≤◌, List, [], ◌∷◌, ◌++◌, length, map, take, drop, get_or, set, refl, ap, sym, subst, ◌∙◌, arith, Option, None, Some, suc, true, zero, add-one, inl, inr}
+use Rattle.std.specs.Prelude.{Bool, Err, IfSome, Ok, OnErr, OnOk, Result, false, is_some, not}
+use Rattle.std.proofs.lemmas.List.{append_assoc, at_drop_more, drop-drop, get_or-set_same, get_or-take, get_or_default, length-append, length-map, length-set, length-take, map-append, set-get_or, take_all}
+use Rattle.std.proofs.lemmas.Bool.{cases_lt}
 use Rattle.std.proofs.lemmas.Option.{same_Some, slice_get_read}
 use Rattle.std.specs.List.{slice_get}
-use Rattle.std.proofs.lemmas.List.Elements.{All-cons, All-nil, All-set}
+use Rattle.std.proofs.lemmas.List.Elements.{All-cons, All-head, All-nil, All-set, All-tail}
 use Rattle.fits_card.specs.Header.{Header, IsHeader, header_bytes}
 use Rattle.fits_rules.specs.Class.{is_primary}
 use Rattle.fits_rules.specs.Shape.{shape_of}
 use Rattle.fits_header.specs.State.{HeaderState}
 use Rattle.fits_passing.specs.ExtensionName.{extension_name}
-use Rattle.fits_unit.specs.DataUnit.{Absence, IsCounted, LiesIn}
-use Rattle.fits_stream.specs.Intake.{supply, IntakeState}
-use Rattle.fits_stream.specs.Stored.{bytes_from, Lent, ReadLogState}
-use Rattle.fits_stream.specs.Stream.{SourceState}
+use Rattle.fits_stream.specs.Agree.{IsOf}
+use Rattle.fits_stream.specs.Intake.{supply, IntakeState, Takes, TakingStops}
+use Rattle.fits_stream.specs.declared.reading.ReadFault.{ReadFault}
+use Rattle.fits_stream.specs.declared.reading.ReadFault.TheVariants as read
+use Rattle.fits_stream.proofs.SightLemmas.{takes_fewer}
+use Rattle.fits_stream.specs.Log.{AreThere}
+use Rattle.fits_stream.specs.Stored.{Lent, ReadLogState}
+use Rattle.fits_unit.specs.Again.{Follows}
+use Rattle.fits_unit.specs.DataUnit.{away_plane, is_passed, unit_at, Absence, IsCounted, IsKnown, Lies, LiesIn}
 use Rattle.fits_passing.specs.Hdu.{HduParts, hdu_bytes, IsHdu}
-use Rattle.fits_hdu.specs.State.{HduState, name_of, parts_of, IsDescribed}
-use Rattle.fits_hdu.specs.Work.{IsKnownAt, IsOpened, Loads, plane_work}
+use Rattle.fits_passing.specs.Met.{all_there, hdu_end, hdus_end, parts_met, parts_there, reads_of as reads_by, state_by, unit_place, Begins, LiesThere, StoredStops}
+use Rattle.fits_passing.specs.declared.open_fault.OpenFault.TheVariants.{BadShape, Memory, NoEnd, NotFits, ShortData, TooLarge}
 use Rattle.fits_passing.specs.declared.passed_hdu.PassedHdu.{PassedHdu}
+use Rattle.fits_passing.specs.declared.read_file_fault.ReadFileFault.{ReadFileFault}
+use Rattle.fits_passing.specs.declared.read_file_fault.ReadFileFault.TheVariants.{Failed, Open}
+use Rattle.fits_passing.specs.Reading.{of_read}
+use Rattle.fits_passing.proofs.FrontLemmas.{goes_on-some}
+use Rattle.fits_passing.proofs.StoredLemmas.{grown_follows}
+use Rattle.fits_passing.proofs.StoredWalkLemmas.{count_there}
+use Rattle.fits_passing.proofs.WalkLemmas.{front_rest}
+use Rattle.fits_hdu.specs.State.{HduState, hdu_at, name_of, parts_of, IsDescribed, IsSeen}
+use Rattle.fits_hdu.specs.Work.{IsOpened, IsOpenedAt, Loads, plane_work}
 use Rattle.fits_hdu.proofs.PassedLemmas.{same_verdicts}
 use Rattle.fits_passing.specs.declared.called.ExtensionName.{ExtensionName}
-use Rattle.fits_stream.specs.Agree.{IsOf}
-use Rattle.fits_stream.specs.Gave.{Gave, GaveAll}
-use Rattle.fits_stream.specs.Log.{unskipped, Grows}
-use Rattle.fits_stream.proofs.GaveLemmas.{gave_fact, gave_of}
-use Rattle.fits_unit.specs.Again.{Follows}
-use Rattle.fits_unit.proofs.AgainLemmas.{again_some, follows_on}
-use Rattle.fits_passing.specs.declared.read_file_fault.ReadFileFault.TheVariants.{Open, Failed}
-use Rattle.fits_passing.specs.declared.open_fault.OpenFault.TheVariants.{NotFits, NoEnd, BadShape, ShortData, TooLarge, Memory}
-use Rattle.fits_session.specs.Away.{is_passed, parts_passed, AllLie, AreKnownFrom, LoadsAlone, LoadWork, StoredStops}
-use Rattle.fits_session.specs.Edit.{changed_of, with_hdu}
-use Rattle.fits_passing.specs.File.{is_primary_hdu, FileParts, file_bytes, joined_hdus, IsFile}
-use Rattle.fits_passing.specs.Opening.{HasOpenFault}
+use Rattle.fits_session.specs.Away.{in_file, AllLie, AreOpenedFrom, IsTold, IsToldOn, LoadEach, LoadsAll, LoadsAlone, LoadsAt, LoadWork}
+use Rattle.fits_session.specs.Edit.{changed_at, changed_of, with_hdu}
+use Rattle.fits_passing.specs.File.{begins_extension, is_primary_hdu, FileParts, file_bytes, joined_hdus, IsFile, IsFileOf, IsFrontOf}
 use Rattle.fits_making.specs.Keeping.{vouch, IsSound}
-use Rattle.fits_passing.specs.Reading.{GaveFault, KeepsEach, SupplyStops}
-use Rattle.fits_session.specs.Session.{file_of, hdus_of, marked_of, state_of, HasPixels, HasStats, IsHeld, IsKept, IsSoOf}
+use Rattle.fits_session.specs.Session.{file_of, hdus_of, kept_of, marked_of, session_at, state_of, HasPixels, HasStats, IsHeld, IsKept, IsNowhere, IsSoOf, SessionState}
 use Rattle.fits_making.specs.Making.{HasArray, Holding, IsHad}
-use Rattle.fits_passing.specs.declared.limits.TheConstants.{FILE_LIMIT}
+use Rattle.fits_passing.specs.declared.limits.TheConstants.{FILE_LIMIT, HDU_LIMIT}
 use Rattle.fits_making.proofs.HadLemmas.{had_held}
 use Rattle.fits_session.proofs.EditLemmas.{length_changed, other_kept}
-use Rattle.fits_passing.specs.declared.read_file_fault.ReadFileFault.{ReadFileFault}
+use Rattle.fits_session.proofs.KeptLemmas.{marked_with}
+use Rattle.fits_session.proofs.NamingLemmas.{rest_after}
 use Rattle.fits_session.proofs.StandingLemmas.{stands_same}
-use Rattle.fits_session.proofs.StateLemmas.{IsHduAt, hdu_of-there, hdus_of-changed, marked_of-same, slice_get-hdus_of, whole_there}
+use Rattle.fits_session.proofs.StateLemmas.{IsHduAt, hdu_of-there, hdus_of-changed, kept_of-same, parts_same, slice_get-hdus_of, whole_there}
 
--- ---- HDUs that passed by
-
--- their parts are those of the file
-pub passed_are : (ks : List PassedHdu) (us : List HduParts) → KeepsEach is_passed ks us → map parts_passed ks ≡ us
-passed_are [] [] p = refl
-passed_are [] (u ∷ us) p = absurd p
-passed_are (k ∷ ks) [] p = absurd p
-passed_are (k ∷ ks) (u ∷ us) p = rw (p.0.parts, passed_are ks us p.1) refl
-
--- so each is known by its own parts
-pub passed_known : (ks : List PassedHdu) (us : List HduParts) → KeepsEach is_passed ks us → All (λ (it : PassedHdu). is_passed it (parts_passed it)) ks
-passed_known [] [] p = All-nil (λ (it : PassedHdu). is_passed it (parts_passed it))
-passed_known [] (u ∷ us) p = absurd p
-passed_known (k ∷ ks) [] p = absurd p
-passed_known (k ∷ ks) (u ∷ us) p =
-    let own : is_passed k (parts_passed k) = subst (is_passed k) (sym p.0.parts) p.0 in
-    All-cons (λ (it : PassedHdu). is_passed it (parts_passed it)) k ks own (passed_known ks us p.1)
+-- ---- HDUs that were met
 
 -- one more lies after them
-pub known_push : (start : ℕ) (hdus : List HduState) (one : HduState) → AreKnownFrom start hdus → IsKnownAt (start + length (joined_hdus (hdus_of hdus)) + length (header_bytes one.header.header)) one → AreKnownFrom start (hdus ++ one ∷ [])
-known_push start [] one p q =
+pub opened_push : (start : ℕ) (hdus : List HduState) (one : HduState) → AreOpenedFrom start hdus → IsOpenedAt (start + length (joined_hdus (hdus_of hdus)) + length (header_bytes one.header.header)) one → AreOpenedFrom start (hdus ++ one ∷ [])
+opened_push start [] one p q =
     let place : start + 0 + length (header_bytes one.header.header) ≡ start + length (header_bytes one.header.header) = omega arith in
-    (subst (λ n. IsKnownAt n one) place q, tt)
-known_push start (hdu ∷ hdus) one p q =
+    (subst (λ n. IsOpenedAt n one) place q, tt)
+opened_push start (hdu ∷ hdus) one p q =
     let own : List ℕ = hdu_bytes (parts_of hdu) in
     let rest : List ℕ = joined_hdus (hdus_of hdus) in
     let place : start + length (own ++ rest) + length (header_bytes one.header.header) ≡ start + length own + length rest + length (header_bytes one.header.header) = omega (arith, length-append own rest) in
-    (p.0, known_push (start + length own) hdus one p.1 (subst (λ n. IsKnownAt n one) place q))
-
--- the parts of those that have come and of those that come
-pub pushed_parts : (hdus more : List HduState) (one : HduState) (k : PassedHdu) (ks rest : List PassedHdu) (all : List HduParts) → more ≡ hdus ++ one ∷ [] → parts_of one ≡ parts_passed k → ks ≡ k ∷ rest → hdus_of hdus ++ map parts_passed ks ≡ all
-    → hdus_of more ++ map parts_passed rest ≡ all
-pushed_parts hdus more one k ks rest all is own next same =
-    ap (λ (us : List HduState). hdus_of us ++ map parts_passed rest) is
-    ∙ ap (λ us. us ++ map parts_passed rest) (map-append parts_of hdus (one ∷ []) ∙ ap (λ (u : HduParts). hdus_of hdus ++ u ∷ []) own)
-    ∙ append_assoc (hdus_of hdus) (parts_passed k ∷ []) (map parts_passed rest)
-    ∙ ap (λ (ls : List PassedHdu). hdus_of hdus ++ map parts_passed ls) (sym next)
-    ∙ same
+    (p.0, opened_push (start + length own) hdus one p.1 (subst (λ n. IsOpenedAt n one) place q))
 
 -- how many bytes they have with one more
 pub joined_push : (hdus : List HduState) (one : HduState) → length (joined_hdus (hdus_of (hdus ++ one ∷ []))) ≡ length (joined_hdus (hdus_of hdus)) + length (hdu_bytes (parts_of one))
@@ -94,98 +73,178 @@ joined_push (hdu ∷ hdus) one = omega (
 )
 
 -- they were opened
-pub known_opened : (start : ℕ) (hdus : List HduState) → AreKnownFrom start hdus → All (IsOpened 0) hdus
-known_opened start [] p = All-nil (IsOpened 0)
-known_opened start (hdu ∷ hdus) p = All-cons (IsOpened 0) hdu hdus p.0.opened (known_opened (start + length (hdu_bytes (parts_of hdu))) hdus p.1)
+pub all_opened : (start : ℕ) (hdus : List HduState) → AreOpenedFrom start hdus → All (IsOpened 0) hdus
+all_opened start [] p = All-nil (IsOpened 0)
+all_opened start (hdu ∷ hdus) p = All-cons (IsOpened 0) hdu hdus p.0.opened (all_opened (start + length (hdu_bytes (parts_of hdu))) hdus p.1)
 
--- what stands after a header is the data unit
-unit_there : (front header unit rest : List ℕ) → take (length unit) (drop (length front + length header) (front ++ ((header ++ unit) ++ rest))) ≡ unit
-unit_there front header unit rest =
-    ap (take (length unit))
-    (drop-append-add front ((header ++ unit) ++ rest) (length header)
-    ∙ ap (drop (length header)) (append_assoc header unit rest)
-    ∙ ap (λ n. drop n (header ++ (unit ++ rest))) (let same : length header ≡ length header + 0 = omega arith in same)
-    ∙ drop-append-add header (unit ++ rest) 0)
-    ∙ take-append_seam unit rest
+-- where one was met, it has the parts that the file has there
+pub parts_placed : (told : List ℕ) (start place : ℕ) (it : PassedHdu) (one : HduState) → one.header.header ≡ it.header.header → one.plane.bytes ≡ (away_plane it.unit).bytes → IsOpenedAt place one → place ≡ unit_place start it → parts_of (hdu_at told one) ≡ parts_there told start it
+parts_placed told start place it one header unit opened is =
+    let n : ℕ = length (away_plane it.unit).bytes in
+    let lies : unit_at told one.plane.bytes one.absent ≡ take n (drop (unit_place start it) told) =
+    ap (unit_at told one.plane.bytes) opened.from.away ∙ ap (λ k. take k (drop opened.absence.place told)) (ap length unit) ∙ ap (λ k. take n (drop k told)) (opened.from.place_is ∙ is) in
+    ap (λ (h : Header). let u : HduParts = record { header = h; data_unit = unit_at told one.plane.bytes one.absent } in u) header ∙ ap (λ t. let u : HduParts = record { header = it.header.header; data_unit = t } in u) lies
 
--- one that is known lies where it is known to
-one_lies : (bytes : List ℕ) (place : ℕ) (one : HduState) → IsKnownAt place one → take (length one.plane.bytes) (drop place bytes) ≡ one.plane.bytes → LiesIn bytes one.plane one.absent
-one_lies bytes place one known there = rw known.lies there
+-- its data unit lies there
+lies_at : (told : List ℕ) (start : ℕ) (it : PassedHdu) (bytes : List ℕ) (at : Absence) → bytes ≡ (away_plane it.unit).bytes → at.place ≡ unit_place start it → at.known ≡ is_passed it.unit → LiesThere told start it → Lies told bytes at
+lies_at told start it bytes at unit spot seen lies = record {
+  there = omega (arith, lies.there, spot, ap length unit);
+  same = λ on. ap (λ k. take k (drop at.place told)) (ap length unit) ∙ ap (λ k. take (length (away_plane it.unit).bytes) (drop k told)) spot ∙ lies.same (sym seen ∙ on) ∙ sym unit;
+}
 
--- so do HDUs that follow one another
-pub known_lie : (front : List ℕ) (hdus : List HduState) (tail : List ℕ) → AreKnownFrom (length front) hdus → All (λ (one : HduState). LiesIn (front ++ (joined_hdus (hdus_of hdus) ++ tail)) one.plane one.absent) hdus
-known_lie front [] tail p = All-nil (λ (one : HduState). LiesIn (front ++ ([] ++ tail)) one.plane one.absent)
-known_lie front (hdu ∷ hdus) tail p =
-    let header : List ℕ = header_bytes hdu.header.header in
-    let own : List ℕ = hdu_bytes (parts_of hdu) in
-    let rest : List ℕ = joined_hdus (hdus_of hdus) in
-    let first : front ++ ((own ++ rest) ++ tail) ≡ front ++ (own ++ (rest ++ tail)) = ap (λ t. front ++ t) (append_assoc own rest tail) in
-    let others : front ++ (own ++ (rest ++ tail)) ≡ (front ++ own) ++ (rest ++ tail) = sym (append_assoc front own (rest ++ tail)) in
-    let size : length front + length own ≡ length (front ++ own) = sym (length-append front own) in
-    let here : LiesIn (front ++ (own ++ (rest ++ tail))) hdu.plane hdu.absent = one_lies (front ++ (own ++ (rest ++ tail))) (length front + length header) hdu p.0 (unit_there front header hdu.plane.bytes (rest ++ tail)) in
-    let after : All (λ (one : HduState). LiesIn ((front ++ own) ++ (rest ++ tail)) one.plane one.absent) hdus = known_lie (front ++ own) hdus tail (subst (λ n. AreKnownFrom n hdus) size p.1) in
-    let more : All (λ (one : HduState). LiesIn (front ++ (own ++ (rest ++ tail))) one.plane one.absent) hdus = subst (λ (bytes : List ℕ). All (λ (one : HduState). LiesIn bytes one.plane one.absent) hdus) (sym others) after in
-    subst (λ (bytes : List ℕ). All (λ (one : HduState). LiesIn bytes one.plane one.absent) (hdu ∷ hdus)) (sym first)
-    (All-cons (λ (one : HduState). LiesIn (front ++ (own ++ (rest ++ tail))) one.plane one.absent) hdu hdus here more)
+-- so an HDU that isn't kept is had
+had_away : (told : List ℕ) (one : HduState) → LiesIn told one.plane one.absent → one.kept ≡ false → IsHad (in_file told) one
+had_away told one lies unkept = record {
+  held = λ no. cc;
+  lies = lies;
+  kept = λ on. let z : true ≡ false = sym on ∙ unkept in cc;
+}
+
+-- it is had there
+pub had_placed : (told : List ℕ) (start place : ℕ) (it : PassedHdu) (one : HduState) → one.plane.bytes ≡ (away_plane it.unit).bytes → IfSome one.absent (λ at. at.known ≡ is_passed it.unit) → IsOpenedAt place one → place ≡ unit_place start it → LiesThere told start it → IsHad (in_file told) one
+had_placed told start place it one unit known opened is lies =
+    let at : Absence = opened.absence in
+    let spot : at.place ≡ unit_place start it = opened.from.place_is ∙ is in
+    let seen : at.known ≡ is_passed it.unit = subst (λ (a : Option Absence). IfSome a (λ b. b.known ≡ is_passed it.unit)) opened.from.away known in
+    let own : Lies told one.plane.bytes at = lies_at told start it one.plane.bytes at unit spot seen lies in
+    had_away told one (subst (λ (a : Option Absence). LiesIn told one.plane a) (sym opened.from.away) own) opened.opened.kept
+
+-- and seen where its data unit passed by
+pub seen_placed : (place : ℕ) (it : PassedHdu) (one : HduState) → IfSome one.absent (λ at. at.known ≡ is_passed it.unit) → IsOpenedAt place one → is_passed it.unit ≡ true → IsSeen one
+seen_placed place it one known opened passed =
+    let seen : opened.absence.known ≡ is_passed it.unit = subst (λ (a : Option Absence). IfSome a (λ b. b.known ≡ is_passed it.unit)) opened.from.away known in
+    subst IsKnown (sym opened.from.away) (seen ∙ passed)
+
+-- the parts of those that have come and of those that come
+pub pushed_there : (told : List ℕ) (hdus more : List HduState) (one : HduState) (start end : ℕ) (k : PassedHdu) (ks rest : List PassedHdu) (all : List HduParts) → more ≡ hdus ++ one ∷ [] → parts_of (hdu_at told one) ≡ parts_there told start k → end ≡ hdu_end start k → ks ≡ k ∷ rest
+    → hdus_of (map (hdu_at told) hdus) ++ all_there told start ks ≡ all → hdus_of (map (hdu_at told) more) ++ all_there told end rest ≡ all
+pushed_there told hdus more one start end k ks rest all is own last next same =
+    let us : List HduParts = hdus_of (map (hdu_at told) hdus) in
+    ap (λ (ls : List HduState). hdus_of (map (hdu_at told) ls) ++ all_there told end rest) is
+    ∙ ap (λ (ls : List HduState). hdus_of ls ++ all_there told end rest) (map-append (hdu_at told) hdus (one ∷ []))
+    ∙ ap (λ (vs : List HduParts). vs ++ all_there told end rest) (map-append parts_of (map (hdu_at told) hdus) (hdu_at told one ∷ []) ∙ ap (λ (u : HduParts). us ++ u ∷ []) own)
+    ∙ append_assoc us (parts_there told start k ∷ []) (all_there told end rest)
+    ∙ ap (λ n. us ++ parts_there told start k ∷ all_there told n rest) last
+    ∙ ap (λ (ls : List PassedHdu). us ++ all_there told start ls) (sym next)
+    ∙ same
+
+-- the same of the parts as they are known
+pub pushed_met : (hdus more : List HduState) (one : HduState) (k : PassedHdu) (ks rest : List PassedHdu) (all : List HduParts) → more ≡ hdus ++ one ∷ [] → one.header.header ≡ k.header.header → one.plane.bytes ≡ (away_plane k.unit).bytes → ks ≡ k ∷ rest → hdus_of hdus ++ map parts_met ks ≡ all
+    → hdus_of more ++ map parts_met rest ≡ all
+pushed_met hdus more one k ks rest all is header unit next same =
+    let own : parts_of one ≡ parts_met k = ap (λ (h : Header). let u : HduParts = record { header = h; data_unit = one.plane.bytes } in u) header ∙ ap (λ t. let u : HduParts = record { header = k.header.header; data_unit = t } in u) unit in
+    ap (λ (us : List HduState). hdus_of us ++ map parts_met rest) is
+    ∙ ap (λ (us : List HduParts). us ++ map parts_met rest) (map-append parts_of hdus (one ∷ []) ∙ ap (λ (u : HduParts). hdus_of hdus ++ u ∷ []) own)
+    ∙ append_assoc (hdus_of hdus) (parts_met k ∷ []) (map parts_met rest)
+    ∙ ap (λ (ls : List PassedHdu). hdus_of hdus ++ map parts_met ls) (sym next)
+    ∙ same
+
+-- HDUs don't end before they begin
+pub end_least : (start : ℕ) (hdus : List PassedHdu) → start ≤ hdus_end start hdus
+end_least start [] = omega arith
+end_least start (it ∷ hdus) = omega (arith, end_least (hdu_end start it) hdus)
+
+-- where one more ends
+pub end_step : (hdus : List PassedHdu) (i end : ℕ) (it : PassedHdu) → i < length hdus → it ≡ get_or hdus i it → hdus_end end (drop i hdus) ≡ hdus_end 0 hdus → hdus_end (hdu_end end it) (drop (i + 1) hdus) ≡ hdus_end 0 hdus
+end_step hdus i end it within there same = ap (λ (one : PassedHdu). hdus_end end (one ∷ drop (i + 1) hdus)) there ∙ sym (at_drop_more (hdus_end end) hdus i it within) ∙ same
+
+-- it ends within the limit
+pub hdu_within : (hdus : List PassedHdu) (i end : ℕ) (it : PassedHdu) → i < length hdus → it ≡ get_or hdus i it → hdus_end end (drop i hdus) ≡ hdus_end 0 hdus → hdus_end 0 hdus ≤ FILE_LIMIT → hdu_end end it ≤ FILE_LIMIT
+hdu_within hdus i end it within there same few = omega (arith, end_step hdus i end it within there same, end_least (hdu_end end it) (drop (i + 1) hdus), few)
+
+-- its header ends by then
+pub header_within : (hdus : List PassedHdu) (i end : ℕ) (it : PassedHdu) → i < length hdus → it ≡ get_or hdus i it → hdus_end end (drop i hdus) ≡ hdus_end 0 hdus → hdus_end 0 hdus ≤ FILE_LIMIT → length (header_bytes it.header.header) ≤ FILE_LIMIT
+header_within hdus i end it within there same few = omega (arith, end_step hdus i end it within there same, end_least (hdu_end end it) (drop (i + 1) hdus), few)
+
+-- one that was opened so is had, whatever the file
+had_opened : (place : ℕ) (one : HduState) → IsOpenedAt place one → IsHad (record { whole = false; told = None }) one
+had_opened place one opened = record { held = λ no. absurd (cc); lies = tt; kept = λ on. absurd (let z : true ≡ false = sym on ∙ opened.opened.kept in cc) }
+
+-- so are all
+pub stored_had : (start : ℕ) (hdus : List HduState) → AreOpenedFrom start hdus → All (IsHad (record { whole = false; told = None })) hdus
+stored_had start [] p = All-nil (IsHad (record { whole = false; told = None }))
+stored_had start (hdu ∷ hdus) p = All-cons (IsHad (record { whole = false; told = None })) hdu hdus (had_opened (start + length (header_bytes hdu.header.header)) hdu p.0) (stored_had (start + length (hdu_bytes (parts_of hdu))) hdus p.1)
 
 -- ---- a stored file
 
--- HDUs whose data units passed by lie in the file that they are of
-pub stored_lie : (hdus : List HduState) (tail : List ℕ) → AreKnownFrom 0 hdus → AllLie (joined_hdus (hdus_of hdus) ++ tail) hdus
-stored_lie hdus tail known = λ i d within. record { held = λ no. absurd (cc); lies = known_lie [] hdus tail known i d within }
+-- where HDUs end that were met
+pub end_met : (start : ℕ) (hdus : List PassedHdu) → hdus_end start hdus ≡ start + length (joined_hdus (map parts_met hdus))
+end_met start [] = omega arith
+end_met start (it ∷ hdus) =
+    omega (arith, end_met (hdu_end start it) hdus, length-append (hdu_bytes (parts_met it)) (joined_hdus (map parts_met hdus)), length-append (header_bytes it.header.header) (away_plane it.unit).bytes)
 
--- and are had so
-pub stored_had : (hdus : List HduState) → All (IsHad (record { whole = false; told = None })) hdus
-stored_had hdus = λ i d within. record { held = λ no. absurd (cc); lies = tt }
+-- the HDUs of a file, and what follows them, are the file
+pub stored_file : {F : Type 0} (told tail : List ℕ) (hdus : List PassedHdu) (us : List HduParts) (i : IntakeState) (a : Lent F) → Begins told hdus i a → us ≡ all_there told 0 hdus → drop (hdus_end 0 hdus) told ≡ tail → begins_extension tail ≡ false → 0 < length hdus → length hdus ≤ HDU_LIMIT → length told ≤ FILE_LIMIT
+    → IsFileOf told (record { hdus = us; tail = tail })
+stored_file told tail hdus us i a begins are rest ends some few size =
+    let front : IsFrontOf told us tail = rw (are, sym rest) begins.front in
+    record {
+      front = front;
+      ends = goes_on-some us tail (omega (arith, some, count_there told 0 hdus, ap length are)) ∙ ends;
+      size = size;
+      count = omega (arith, few, count_there told 0 hdus, ap length are);
+    }
 
--- a stored file that is lent, as a source
-abbrev lent_source : {F : Type 0} → (F → Option (List ℕ)) → Lent F → SourceState
-lent_source tell a = record { remaining = bytes_from a.log.at (tell a.file); log = Some (unskipped a.log); failures = a.failures }
+-- so are they as they are known
+pub known_file : (hdus : List PassedHdu) (us : List HduParts) (tail : List ℕ) → us ≡ map parts_met hdus → IsFrontOf (joined_hdus (map parts_met hdus)) (map parts_met hdus) [] → begins_extension tail ≡ false → 0 < length hdus → length hdus ≤ HDU_LIMIT → hdus_end 0 hdus + length tail ≤ FILE_LIMIT → IsFile (record { hdus = us; tail = tail })
+known_file hdus us tail are front ends some few size =
+    let first : IsFrontOf (joined_hdus us) us [] = rw are front in
+    let many : length us ≡ length hdus = ap length are ∙ length-map hdus parts_met in
+    let long : hdus_end 0 hdus ≡ length (joined_hdus us) = omega (arith, end_met 0 hdus, ap (λ (vs : List HduParts). length (joined_hdus vs)) are) in
+    record {
+      front = front_rest us tail first;
+      ends = goes_on-some us tail (omega (arith, some, many)) ∙ ends;
+      size = omega (arith, size, long, length-append (joined_hdus us) tail);
+      count = omega (arith, few, many);
+    }
 
--- a fact of all that it gave is one of each file that its reads may be of
-stored_fact : {F : Type 0} {k : ℕ} (P : List ℕ → Type 0) (tell : F → Option (List ℕ)) (a b : Lent F) (old new : ReadLogState) → a.log.at ≡ 0 → a.log.came ≡ old.came → a.log.ends ≡ old.ends → new ≡ record { came = b.log.came; ends = b.log.ends; failures = b.failures; looked = k }
-    → GaveAll (lent_source tell a) (lent_source tell b) P → (xs : List ℕ) → IsOf xs new → P xs
-stored_fact P tell a b old new at came ends is gave xs of =
-    gave_of P xs a.log b.log (lent_source tell a) (lent_source tell b) old new refl refl at (sym came) (sym ends) (ap (λ (l : ReadLogState). l.came) is) (ap (λ (l : ReadLogState). l.ends) is) gave of
+-- what holds anyhow holds where there is an error
+pub err_or : {X E P : Type 0} (result : Result X E) → P → OnErr result P
+err_or (Ok x) p = tt
+err_or (Err e) p = p
 
--- so each is what came
-pub stored_of : {F : Type 0} {k : ℕ} (tell : F → Option (List ℕ)) (a b : Lent F) (i : IntakeState) (old new : ReadLogState) (limit : ℕ) (file : List ℕ) → a.log.at ≡ 0 → a.log.came ≡ old.came → a.log.ends ≡ old.ends
-    → new ≡ record { came = b.log.came; ends = b.log.ends; failures = b.failures; looked = k } → i ≡ record { ahead = []; left = limit }
-    → (i.ahead ≡ [] → Gave (lent_source tell a) (lent_source tell b) file) → (xs : List ℕ) → IsOf xs new → xs ≡ file
-stored_of tell a b i old new limit file at came ends is begun gave xs of =
-    stored_fact (λ t. t ≡ file) tell a b old new at came ends is (gave_fact (λ t. t ≡ file) (lent_source tell a) (lent_source tell b) file (gave (ap (λ (k : IntakeState). k.ahead) begun)) refl) xs of
+-- ---- the log of a file that is lent
 
--- and has the fault for which it isn't opened
-pub stored_stops : {F : Type 0} {k : ℕ} (tell : F → Option (List ℕ)) (a b : Lent F) (i : IntakeState) (old new : ReadLogState) (why : ReadFileFault) → a.log.at ≡ 0 → a.log.came ≡ old.came → a.log.ends ≡ old.ends → a.failures ≡ old.failures
-    → new ≡ record { came = b.log.came; ends = b.log.ends; failures = b.failures; looked = k } → SupplyStops (supply (lent_source tell a) i) (lent_source tell b) why → GaveFault (lent_source tell a) (lent_source tell b) why → StoredStops old new why
-stored_stops tell a b i old new (Open NotFits) at came ends same is p q =
-    (stored_fact (λ s. HasOpenFault s NotFits) tell a b old new at came ends is q, ap (λ (l : ReadLogState). l.failures) is ∙ p.1.quiet ∙ same)
-stored_stops tell a b i old new (Open (NoEnd h)) at came ends same is p q =
-    (stored_fact (λ s. HasOpenFault s (NoEnd h)) tell a b old new at came ends is q, ap (λ (l : ReadLogState). l.failures) is ∙ p.1.quiet ∙ same)
-stored_stops tell a b i old new (Open (BadShape h place)) at came ends same is p q =
-    (stored_fact (λ s. HasOpenFault s (BadShape h place)) tell a b old new at came ends is q, ap (λ (l : ReadLogState). l.failures) is ∙ p.1.quiet ∙ same)
-stored_stops tell a b i old new (Open (ShortData h)) at came ends same is p q =
-    (stored_fact (λ s. HasOpenFault s (ShortData h)) tell a b old new at came ends is q, ap (λ (l : ReadLogState). l.failures) is ∙ p.1.quiet ∙ same)
-stored_stops tell a b i old new (Open TooLarge) at came ends same is p q =
-    (stored_fact (λ s. HasOpenFault s TooLarge) tell a b old new at came ends is q, ap (λ (l : ReadLogState). l.failures) is ∙ p.1.quiet ∙ same)
-stored_stops tell a b i old new (Open Memory) at came ends same is p q = ap (λ (l : ReadLogState). l.failures) is ∙ p.quiet ∙ same
-stored_stops tell a b i old new Failed at came ends same is p q = ap (λ (l : ReadLogState). l.failures) is ∙ p.failed ∙ ap (λ n. n + 1) same
+-- a file of the reads is one of those that the source has
+pub lent_of : {F : Type 0} (a : Lent F) (log : ReadLogState) (told : List ℕ) → log.came ≡ a.log.came → log.ends ≡ a.log.ends → IsOf told log → IsOf told (reads_by a)
+lent_of a log told came ends is = record {
+  came = subst (AreThere 0 told) came is.came;
+  ends = λ n place there. is.ends n place (ap (λ t. slice_get t n) ends ∙ there);
+}
 
--- and the log goes on
-pub stored_follows : {F : Type 0} {k : ℕ} (a b : Lent F) (old new : ReadLogState) → a.log.at ≡ 0 → a.log.came ≡ old.came → a.log.ends ≡ old.ends → new ≡ record { came = b.log.came; ends = b.log.ends; failures = b.failures; looked = k }
-    → Grows (Some (unskipped a.log)) (Some (unskipped b.log)) → Follows old new
-stored_follows a b old new at came ends is grows =
-    let some = again_some a b 0 old new at came ends is grows in follows_on 0 old new some.bytes some.read
+-- and back
+pub of_lent : {F : Type 0} (a : Lent F) (log : ReadLogState) (told : List ℕ) → log.came ≡ a.log.came → log.ends ≡ a.log.ends → IsOf told (reads_by a) → IsOf told log
+of_lent a log told came ends is = record {
+  came = subst (AreThere 0 told) (sym came) is.came;
+  ends = λ n place there. is.ends n place (ap (λ t. slice_get t n) (sym ends) ∙ there);
+}
 
--- also where it isn't opened
-pub supply_grows : (a : SourceState) (i : IntakeState) (b : SourceState) (why : ReadFileFault) → SupplyStops (supply a i) b why → Grows a.log b.log
-supply_grows a i b (Open NotFits) p = p.1.log
-supply_grows a i b (Open (NoEnd h)) p = p.1.log
-supply_grows a i b (Open (BadShape h place)) p = p.1.log
-supply_grows a i b (Open (ShortData h)) p = p.1.log
-supply_grows a i b (Open TooLarge) p = p.1.log
-supply_grows a i b (Open Memory) p = p.log
-supply_grows a i b Failed p = p.log
+-- so reads follow one another
+pub lent_follows : {F : Type 0} (a b : Lent F) (old new : ReadLogState) → old.came ≡ a.log.came → old.ends ≡ a.log.ends → new.came ≡ b.log.came → new.ends ≡ b.log.ends → Follows (reads_by a) (reads_by b) → Follows old new
+lent_follows a b old new came ends came' ends' follows = λ told is. of_lent a old told came ends (follows told (lent_of b new told came' ends' is))
+
+-- and why it isn't opened
+pub lent_stops : {F : Type 0} (a b : Lent F) (old new : ReadLogState) (why : ReadFileFault) → new.came ≡ b.log.came → new.ends ≡ b.log.ends → a.failures ≡ old.failures → new.failures ≡ b.failures → StoredStops (reads_by a) (reads_by b) why → StoredStops old new why
+lent_stops a b old new (Open NotFits) came ends was is p = (λ told of. p.0 told (lent_of b new told came ends of), is ∙ p.1 ∙ was)
+lent_stops a b old new (Open (NoEnd h)) came ends was is p = (λ told of. p.0 told (lent_of b new told came ends of), is ∙ p.1 ∙ was)
+lent_stops a b old new (Open (BadShape h place)) came ends was is p = (λ told of. p.0 told (lent_of b new told came ends of), is ∙ p.1 ∙ was)
+lent_stops a b old new (Open (ShortData h)) came ends was is p = (λ told of. p.0 told (lent_of b new told came ends of), is ∙ p.1 ∙ was)
+lent_stops a b old new (Open TooLarge) came ends was is p = (λ told of. p.0 told (lent_of b new told came ends of), is ∙ p.1 ∙ was)
+lent_stops a b old new (Open Memory) came ends was is p = is ∙ p ∙ was
+lent_stops a b old new Failed came ends was is p = is ∙ p ∙ ap (λ n. n + 1) was
+
+-- reads follow one another where it wasn't
+pub tail_follows : {F : Type 0} (x y : Option (List ℕ)) (a b : Lent F) (fault : ReadFault) → TakingStops (state_by x a) (state_by y b) fault → Follows (reads_by a) (reads_by b)
+tail_follows x y a b read.Memory p = grown_follows a b p.log
+tail_follows x y a b read.Failed p = grown_follows a b p.log
+
+-- nor where it was
+pub taken_follows : {F : Type 0} (x y : Option (List ℕ)) (a b : Lent F) (i j : IntakeState) (bytes : List ℕ) → Takes (supply (state_by x a) i) (supply (state_by y b) j) bytes → Follows (reads_by a) (reads_by b)
+taken_follows x y a b i j bytes p = grown_follows a b (record { bytes = p.more; logs = p.drawn.read.log })
+
+-- no more of it was than may be
+pub tail_within : {F : Type 0} (x y : Option (List ℕ)) (a b : Lent F) (i j : IntakeState) (tail : List ℕ) (end limit : ℕ) → Takes (supply (state_by x a) i) (supply (state_by y b) j) tail → end + length i.ahead + i.left ≡ limit → end + length tail ≤ limit
+tail_within x y a b i j tail end limit p all = omega (arith, all, takes_fewer (supply (state_by x a) i) (supply (state_by y b) j) tail p)
 
 -- ---- loading
 
@@ -194,10 +253,90 @@ pub loaded_had : {X E : Type 0} (result : Result X E) (holding : Holding) (old n
 loaded_had (Ok x) holding old new held same had = had_held holding new held
 loaded_had (Err e) holding old new held same had = subst (IsHad holding) (sym same) had
 
--- where its bytes are what they were, the file is
-pub loaded_same : {X E : Type 0} (result : Result X E) (hdus : List HduState) (tail : List ℕ) (h i : ℕ) (old new : HduState) → IsHduAt hdus h i old → Loads old new → OnOk result (parts_of new ≡ parts_of old) → OnOk result (marked_of (state_of (set hdus i new) tail) ≡ marked_of (state_of hdus tail))
-loaded_same (Ok x) hdus tail h i old new at loads same = marked_of-same hdus tail h i old new at same (ap (λ (one : HduState). one.kept) loads.rest)
-loaded_same (Err e) hdus tail h i old new at loads same = tt
+-- one that was loaded, or came to be known, is had where it was
+pub known_had : {X E : Type 0} (result : Result X E) (whole : Bool) (told : List ℕ) (log : ReadLogState) (old new : HduState) → whole ≡ false → OnOk result (IsSeen new) → OnErr result (new ≡ old) → (IsToldOn whole told log old → IsToldOn whole told log new) → IsOf told log → IsHad (in_file told) old → IsHad (in_file told) new
+known_had (Ok x) whole told log old new away seen same lies of had =
+    let there = lies (λ no. (of, had.lies)) away in
+    record { held = λ no. absurd (cc); lies = there.1; kept = λ on. seen }
+known_had (Err e) whole told log old new away seen same lies of had = subst (IsHad (in_file told)) (sym same) had
+
+-- it is seen where it was, or is now
+pub seen_after : {X E : Type 0} (result : Result X E) (old new : HduState) → OnOk result (IsSeen new) → OnErr result (new ≡ old) → IsSeen old → IsSeen new
+seen_after (Ok x) old new seen same was = seen
+seen_after (Err e) old new seen same was = subst (λ (one : HduState). IsSeen one) (sym same) was
+
+-- one that was loaded is seen
+pub held_seen : {X E : Type 0} (result : Result X E) (new : HduState) → OnOk result (new.absent ≡ None) → OnOk result (IsSeen new)
+held_seen (Ok x) new held = subst IsKnown (sym held) tt
+held_seen (Err e) new held = tt
+
+-- one in memory has its own parts wherever others lie
+pub held_parts : (told : List ℕ) (one : HduState) → one.absent ≡ None → parts_of (hdu_at told one) ≡ parts_of one
+held_parts told one held = ap (λ (absent : Option Absence). let u : HduParts = record { header = one.header.header; data_unit = unit_at told one.plane.bytes absent } in u) held
+
+-- so has one that is known, where its data unit lies there
+seen_unit : (told bytes : List ℕ) (absent : Option Absence) → IsKnown absent → IfSome absent (Lies told bytes) → unit_at told bytes absent ≡ bytes
+seen_unit told bytes None known lies = refl
+seen_unit told bytes (Some it) known lies = lies.same known
+
+pub seen_parts : (told : List ℕ) (one : HduState) → IsSeen one → LiesIn told one.plane one.absent → parts_of (hdu_at told one) ≡ parts_of one
+seen_parts told one seen lies = ap (λ t. let u : HduParts = record { header = one.header.header; data_unit = t } in u) (seen_unit told one.plane.bytes one.absent seen lies)
+
+pub known_parts : {X E : Type 0} (result : Result X E) (told : List ℕ) (old new : HduState) → OnOk result (IsSeen new) → OnOk result (parts_of new ≡ parts_of (hdu_at told old)) → LiesIn told new.plane new.absent → OnOk result (parts_of (hdu_at told new) ≡ parts_of (hdu_at told old))
+known_parts (Ok x) told old new seen same lies = seen_parts told new seen lies ∙ same
+known_parts (Err e) told old new seen same lies = tt
+
+-- one that came to be known in a stored file is had as it was
+pub had_known : (old new : HduState) → Loads old new → (IsSeen old → new ≡ old) → IsHad (record { whole = false; told = None }) old → IsHad (record { whole = false; told = None }) new
+had_known old new loads idle had = record {
+  held = λ no. absurd (cc);
+  lies = tt;
+  kept = λ on. let seen : IsSeen old = had.kept (sym (ap (λ (one : HduState). one.kept) loads.rest) ∙ on) in subst (λ (one : HduState). IsSeen one) (sym (idle seen)) seen;
+}
+
+-- so one that was loaded has those that it had there
+pub loaded_parts : {X E : Type 0} (result : Result X E) (told : List ℕ) (old new : HduState) → OnOk result (new.absent ≡ None) → OnOk result (parts_of new ≡ parts_of (hdu_at told old)) → OnOk result (parts_of (hdu_at told new) ≡ parts_of (hdu_at told old))
+loaded_parts (Ok x) told old new held same = held_parts told new held ∙ same
+loaded_parts (Err e) told old new held same = tt
+
+-- the parts of each in a file, and the marks, one by one
+pub parts_at : (told : List ℕ) (hdus : List HduState) → hdus_of (map (hdu_at told) hdus) ≡ map (λ (one : HduState). parts_of (hdu_at told one)) hdus
+parts_at told [] = refl
+parts_at told (hdu ∷ hdus) = ap (λ (us : List HduParts). parts_of (hdu_at told hdu) ∷ us) (parts_at told hdus)
+
+pub kept_at_told : (told : List ℕ) (hdus : List HduState) → kept_of (map (hdu_at told) hdus) ≡ kept_of hdus
+kept_at_told told [] = refl
+kept_at_told told (hdu ∷ hdus) = ap (λ (marks : List Bool). hdu.kept ∷ marks) (kept_at_told told hdus)
+
+-- the same parts in a file, and the same marks: the same file with marks
+pub marked_at : (told : List ℕ) (new old : List HduState) (tail : List ℕ) → hdus_of (map (hdu_at told) new) ≡ hdus_of (map (hdu_at told) old) → kept_of new ≡ kept_of old → marked_of (session_at told (state_of new tail)) ≡ marked_of (session_at told (state_of old tail))
+marked_at told new old tail parts marks =
+    marked_with (hdus_of (map (hdu_at told) new)) (hdus_of (map (hdu_at told) old)) tail (kept_of (map (hdu_at told) new)) (kept_of (map (hdu_at told) old)) parts (kept_at_told told new ∙ marks ∙ sym (kept_at_told told old))
+
+-- where its bytes are what they were there, the file is
+pub loaded_same : {X E : Type 0} (result : Result X E) (told : List ℕ) (hdus : List HduState) (tail : List ℕ) (h i : ℕ) (old new : HduState) → IsHduAt hdus h i old → Loads old new → OnOk result (parts_of (hdu_at told new) ≡ parts_of (hdu_at told old))
+    → OnOk result (marked_of (session_at told (state_of (set hdus i new) tail)) ≡ marked_of (session_at told (state_of hdus tail)))
+loaded_same (Ok x) told hdus tail h i old new at loads same =
+    let parts = parts_at told (set hdus i new) ∙ parts_same (λ (one : HduState). parts_of (hdu_at told one)) hdus i old new at.index.within at.is same ∙ sym (parts_at told hdus) in
+    marked_at told (set hdus i new) hdus tail parts (kept_of-same hdus i old new at.index.within at.is (ap (λ (one : HduState). one.kept) loads.rest))
+loaded_same (Err e) told hdus tail h i old new at loads same = tt
+
+-- all of them lie where they lay
+pub loaded_told : (whole : Bool) (told : List ℕ) (log : ReadLogState) (hdus : List HduState) (i : ℕ) (old new : HduState) → i < length hdus → old ≡ get_or hdus i old → (whole ≡ false → IsOf told log → IsHad (in_file told) old → IsHad (in_file told) new) → IsTold whole told log hdus → IsTold whole told log (set hdus i new)
+loaded_told whole told log hdus i old new within is stays all = λ away.
+    let own = all away in
+    (own.0, All-set (IsHad (in_file told)) hdus i new (stays away own.0 (subst (IsHad (in_file told)) (sym is) (own.1 i old within))) own.1)
+
+-- what is so of all is so of one
+pub told_on : (whole : Bool) (told : List ℕ) (log : ReadLogState) (hdus : List HduState) (i : ℕ) (one : HduState) → IsTold whole told log hdus → i < length hdus → one ≡ get_or hdus i one → IsToldOn whole told log one
+told_on whole told log hdus i one all within is = λ away.
+    let own = all away in
+    let had : IsHad (in_file told) one = subst (IsHad (in_file told)) (sym is) (own.1 i one within) in
+    (own.0, had.lies)
+
+-- all are seen where all were
+pub all_seen_after : {X E : Type 0} (result : Result X E) (hdus : List HduState) (i : ℕ) (old new : HduState) → i < length hdus → old ≡ get_or hdus i old → OnOk result (IsSeen new) → OnErr result (new ≡ old) → All IsSeen hdus → All IsSeen (set hdus i new)
+all_seen_after result hdus i old new within is seen same all = All-set IsSeen hdus i new (seen_after result old new seen same (subst (λ (one : HduState). IsSeen one) (sym is) (all i old within))) all
 
 -- the length of an HDU goes by that of its data unit
 same_length : (old new : HduState) → new.header.header ≡ old.header.header → length new.plane.bytes ≡ length old.plane.bytes → length (hdu_bytes (parts_of new)) ≡ length (hdu_bytes (parts_of old))
@@ -246,12 +385,14 @@ module _ (holding : Holding) (hdus : List HduState) (tail : List ℕ) (h i bytes
         kept.len ∙ sym size ∙ ap (λ (f : FileParts). length (file_bytes f)) (sym left),
       )
 
-  -- its sums vouch for it as they did
+  -- its sums vouch for it as they did: where it is kept its data are known
   right_still : IsSound new
   right_still on =
       let was : IsSound old = subst IsSound (sym at.is) (kept.right i old at.index.within) in
+      let had : IsHad holding old = subst (IsHad holding) (sym at.is) (kept.had i old at.index.within) in
       let mark : new.kept ≡ old.kept = ap (λ (one : HduState). one.kept) loads.rest in
-      ap vouch (same_verdicts (parts_of old) (parts_of new) there.header cards_same loads.total) ∙ was (sym mark ∙ on)
+      let before : old.kept ≡ true = sym mark ∙ on in
+      ap vouch (same_verdicts (parts_of old) (parts_of new) there.header cards_same (loads.total (had.kept before))) ∙ was before
 
   -- its cards describe its shape
   described_still : IsDescribed new
@@ -302,10 +443,10 @@ loads_alone hdus tail h i old new at loads = record {
       subst (λ (was : HduState). Loads was new) (sym same) loads;
 }
 
--- where it was held, nothing changes
-pub held_stays : (hdus : List HduState) (tail : List ℕ) (h i : ℕ) (old new : HduState) → IsHduAt hdus h i old → (old.absent ≡ None → new ≡ old) → IsSoOf IsHeld h hdus → state_of (set hdus i new) tail ≡ state_of hdus tail
-held_stays hdus tail h i old new at idle held =
-    let same : new ≡ old = idle (held i old at.index (sym at.is)) in
+-- where it was so already, nothing changes
+pub idle_stays : (Is : HduState → Type 0) (hdus : List HduState) (tail : List ℕ) (h i : ℕ) (old new : HduState) → IsHduAt hdus h i old → (Is old → new ≡ old) → IsSoOf Is h hdus → state_of (set hdus i new) tail ≡ state_of hdus tail
+idle_stays Is hdus tail h i old new at idle so =
+    let same : new ≡ old = idle (so i old at.index (sym at.is)) in
     ap (λ (left : List HduState). state_of left tail) (ap (set hdus i) (same ∙ at.is) ∙ set-get_or hdus i old)
 
 -- what is held has its pixels in memory, as an image
@@ -320,6 +461,14 @@ held_array hdus h held i one at is bits found = held i one at is
 pub held_known : (hdus : List HduState) (h : ℕ) → IsSoOf HasPixels h hdus → IsSoOf HasStats h hdus
 held_known hdus h held i one at is kind found = subst (λ (absent : Option Absence). IsCounted one.plane absent) (sym (held i one at is kind found)) tt
 
+-- so of what is held
+pub held_stats : (hdus : List HduState) (h : ℕ) → IsSoOf IsHeld h hdus → IsSoOf HasStats h hdus
+held_stats hdus h held = held_known hdus h (held_pixels hdus h held)
+
+-- which is seen
+pub so_known : (hdus : List HduState) (h : ℕ) → IsSoOf IsHeld h hdus → IsSoOf IsSeen h hdus
+so_known hdus h held i one at is = subst IsKnown (sym (held i one at is)) tt
+
 -- ---- what is wanted of an HDU
 
 -- what is so of the HDU at its index is so of HDU h
@@ -329,6 +478,22 @@ so_there Is hdus h i hdu at is j one index there =
     let own : slice_get hdus j ≡ Some one = slice_get_read hdus (length hdus) j one refl index.within (sym there) in
     let found : slice_get hdus j ≡ Some hdu = ap (slice_get hdus) same_index ∙ slice_get_read hdus (length hdus) i hdu refl at.index.within at.is in
     subst Is (same_Some hdu one (sym found ∙ own)) is
+
+-- one that is counted has its statistics, as an image
+pub counted_stats : {X E : Type 0} (result : Result X E) (hdus : List HduState) (h i : ℕ) (new : HduState) → IsHduAt hdus h i new → OnOk result (IsCounted new.plane new.absent) → OnOk result (IsSoOf HasStats h hdus)
+counted_stats (Ok x) hdus h i new at counted = so_there HasStats hdus h i new at (λ kind found. counted)
+counted_stats (Err e) hdus h i new at counted = tt
+
+-- what is written there stands there
+pub at_set : (hdus : List HduState) (h i : ℕ) (old new : HduState) → IsHduAt hdus h i old → IsHduAt (set hdus i new) h i new
+at_set hdus h i old new at = record {
+  index = record { at = at.index.at; within = omega (arith, at.index.within, length-set hdus i new) };
+  is = sym (get_or-set_same hdus i new new at.index.within);
+}
+
+-- nothing is so of an HDU that isn't there but what is
+pub so_nowhere : (Is : HduState → Type 0) (hdus : List HduState) (h : ℕ) → IsNowhere (length hdus) h → IsSoOf Is h hdus
+so_nowhere Is hdus h none i one at is = absurd (elim none [ inl zero_is ↦ omega (arith, zero_is, at.at) | inr past ↦ omega (arith, past, at.at, at.within) ])
 
 -- it is in memory, if such a thing is found of it
 abbrev pub HeldIf : {X : Type 0} → (HduState → Option X) → HduState → Type 0
@@ -348,3 +513,99 @@ some_held find hdus h i hdu found at is some held =
 pub none_held : {X : Type 0} (find : HduState → Option X) (hdus : List HduState) (h i : ℕ) (hdu : HduState) (found : Option X) → IsHduAt hdus h i hdu → found ≡ find hdu → is_some found ≡ false → IsSoOf (HeldIf find) h hdus
 none_held find hdus h i hdu found at is none =
     so_there (HeldIf find) hdus h i hdu at (λ x one. absurd (let z : true ≡ false = sym (ap is_some (is ∙ one)) ∙ none in cc))
+
+-- ---- all of them
+
+-- one that stays as it is
+pub loads_none : (one : HduState) → Loads one one
+loads_none one = record {
+  total = λ seen. refl;
+  size = refl;
+  rest = refl;
+  work = record { reads = refl; more_scans = omega arith; scans = omega arith; more_joins = omega arith; joins = λ d few. omega arith };
+}
+
+-- what is so of all is so of HDU h
+pub so_all : (h : ℕ) (hdus : List HduState) → All IsSeen hdus → IsSoOf IsSeen h hdus
+so_all h hdus all i one at there = subst (λ (it : HduState). IsSeen it) there (all i one at.within)
+
+-- one more HDU was loaded, or came to be known: it was as it had been
+pub each_more : (old mid : List HduState) (i : ℕ) (now : HduState) → LoadEach old mid → drop i mid ≡ drop i old → ((one : HduState) → slice_get mid i ≡ Some one → Loads one now) → LoadEach old (changed_at i (λ one. now) mid)
+each_more [] [] i now p same loads = tt
+each_more [] (m ∷ mid) i now p same loads = absurd p
+each_more (o ∷ old) [] i now p same loads = absurd p
+each_more (o ∷ old) (m ∷ mid) zero now p same loads =
+    let first : m ≡ o = cc in
+    (subst (λ (one : HduState). Loads one now) first (loads m refl), p.1)
+each_more (o ∷ old) (m ∷ mid) (suc i) now p same loads = (p.0, each_more old mid i now p.1 same loads)
+
+-- none was
+pub each_none : (hdus : List HduState) → LoadEach hdus hdus
+each_none [] = tt
+each_none (hdu ∷ hdus) = (loads_none hdu, each_none hdus)
+
+-- they are as many
+pub each_count : (old new : List HduState) → LoadEach old new → length new ≡ length old
+each_count [] [] p = refl
+each_count [] (now ∷ new) p = absurd p
+each_count (one ∷ old) [] p = absurd p
+each_count (one ∷ old) (now ∷ new) p = omega (arith, each_count old new p.1)
+
+-- the first of them are seen, and one more
+pub seen_more : (hdus : List HduState) (i : ℕ) → All IsSeen (take i hdus) → IsSoOf IsSeen (i + 1) hdus → All IsSeen (take (i + 1) hdus)
+seen_more hdus i first next = elim (cases_lt i (length hdus)) [
+  | inl within ↦ λ k d before.
+      let count : length (take (i + 1) hdus) ≡ i + 1 = omega (arith, within, length-take (i + 1) hdus) in
+      let there : get_or (take (i + 1) hdus) k d ≡ get_or hdus k d = get_or-take (i + 1) hdus k d (omega (arith, before, count)) in
+      elim (cases_lt k i) [
+        | inl early ↦ subst (λ (one : HduState). IsSeen one) (get_or-take i hdus k d early ∙ sym there) (first k d (omega (arith, early, within, length-take i hdus)))
+        | inr late ↦
+            let last : k ≡ i = omega (arith, late, before, count) in
+            subst (λ (one : HduState). IsSeen one) (sym there) (next k (get_or hdus k d) (record { at = omega (arith, last); within = omega (arith, last, within) }) (get_or_default hdus k (get_or hdus k d) d (omega (arith, last, within))))
+      ]
+  | inr past ↦ subst (All IsSeen) (take_all i hdus past ∙ sym (take_all (i + 1) hdus (omega (arith, past)))) first
+]
+
+-- what is the same from one on is the same from the next on
+drop_more_same : (hdus old : List HduState) (i : ℕ) → drop i hdus ≡ drop i old → drop (i + 1) hdus ≡ drop (i + 1) old
+drop_more_same hdus old i same = sym (drop-drop 1 i hdus) ∙ ap (drop 1) same ∙ drop-drop 1 i old
+
+-- the first ones stay where a later one is written
+take_set : (hdus : List HduState) (i : ℕ) (new : HduState) → take i (set hdus i new) ≡ take i hdus
+take_set [] i new = refl
+take_set (hdu ∷ hdus) zero new = refl
+take_set (hdu ∷ hdus) (suc i) new = ap (λ (left : List HduState). hdu ∷ left) (take_set hdus i new)
+
+-- so it is of a session of which HDU h came to be known
+pub all_more : (old mid new : SessionState) (i : ℕ) → LoadsAll old mid → drop i mid.hdus ≡ drop i old.hdus → LoadsAt (i + 1) mid new → LoadsAll old new
+all_more old mid new i p same at = elim at [
+  | inl stays ↦ subst (LoadsAll old) (sym stays) p
+  | inr alone ↦
+      let here : changed_of (i + 1) (λ (one : HduState). alone.now) mid.hdus ≡ changed_at i (λ (one : HduState). alone.now) mid.hdus = ap (λ k. changed_of k (λ (one : HduState). alone.now) mid.hdus) (add-one i) in
+      subst (LoadsAll old) (sym (alone.is ∙ ap (λ (left : List HduState). let it : SessionState = record { hdus = left; tail = mid.tail } in it) here)) (record {
+        tail = p.tail;
+        each = each_more old.hdus mid.hdus i alone.now p.each same (λ one there. alone.loads i one refl there);
+      })
+]
+
+-- those that come next are as they were
+pub rest_more : (old : List HduState) (mid new : SessionState) (i : ℕ) → drop i mid.hdus ≡ drop i old → LoadsAt (i + 1) mid new → drop (i + 1) new.hdus ≡ drop (i + 1) old
+rest_more old mid new i same at = elim at [
+  | inl stays ↦ ap (λ (it : SessionState). drop (i + 1) it.hdus) stays ∙ drop_more_same mid.hdus old i same
+  | inr alone ↦ ap (λ (it : SessionState). drop (i + 1) it.hdus) alone.is ∙ ap (λ k. drop (i + 1) (changed_of k (λ (one : HduState). alone.now) mid.hdus)) (add-one i) ∙ ap (drop (i + 1)) (sym (hdus_set mid.hdus i alone.now)) ∙ rest_after mid.hdus old i alone.now same
+]
+
+-- and the first ones are seen, if those before the last were
+pub first_more : (mid new : SessionState) (i : ℕ) → All IsSeen (take i mid.hdus) → LoadsAt (i + 1) mid new → IsSoOf IsSeen (i + 1) new.hdus → All IsSeen (take (i + 1) new.hdus)
+first_more mid new i first at next = elim at [
+  | inl stays ↦ seen_more new.hdus i (subst (λ (it : SessionState). All IsSeen (take i it.hdus)) (sym stays) first) next
+  | inr alone ↦
+      let same : take i new.hdus ≡ take i mid.hdus =
+      ap (λ (it : SessionState). take i it.hdus) alone.is ∙ ap (λ k. take i (changed_of k (λ (one : HduState). alone.now) mid.hdus)) (add-one i) ∙ ap (take i) (sym (hdus_set mid.hdus i alone.now)) ∙ take_set mid.hdus i alone.now in
+      seen_more new.hdus i (subst (All IsSeen) (sym same) first) next
+]
+
+-- nothing is so and isn't
+pub not_both : (b : Bool) → not b ≡ true → b ≡ true → ⊥
+not_both true isnt is = cc
+not_both false isnt is = cc

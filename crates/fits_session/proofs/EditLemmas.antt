@@ -26,7 +26,7 @@ use Rattle.fits_passing.specs.Limits.{is_within_limits}
 use Rattle.fits_session.specs.Marked.{Marked, is_kept, marked_after, marked_file_after, marked_refusal, marks_after}
 use Rattle.fits_making.specs.Refusal.{limit_refusal, Fails, HduNeedsMemory, OrStampNeedsMemory}
 use Rattle.fits_session.specs.Refusal.{made_refusal, refusal_in}
-use Rattle.fits_session.specs.Session.{file_of, hdus_of, kept_of, marked_of, reads_of, state_of, works_of, AreIdle, EditsTo, EditWork, HduWorks, IsKept, IsNowhere, ReadsOnly, WorksOnly}
+use Rattle.fits_session.specs.Session.{absences_of, file_of, hdus_of, kept_of, marked_of, reads_of, state_of, works_of, AreIdle, EditsTo, EditWork, HduWorks, IsKept, IsNowhere, ReadsOnly, WorksOnly}
 use Rattle.fits_making.specs.Making.{length_with, within_refusal, HduEditsTo, HduWork, Holding, IsHad, IsIdle}
 use Rattle.fits_session.specs.NameTable.{Stands, Stood}
 use Rattle.fits_session.specs.Work.{edit_reads, follow_reads, reads_in_all}
@@ -46,7 +46,7 @@ use Rattle.fits_making.proofs.PixelEditLemmas.{pixels_keep}
 use Rattle.fits_making.proofs.ReshapeEditLemmas.{reshape_described, reshape_named}
 use Rattle.fits_session.proofs.StandingLemmas.{stands_same}
 use Rattle.fits_making.proofs.MakingLemmas.{limit_none, within_limits}
-use Rattle.fits_session.proofs.StateLemmas.{IsHduAt, file_of-same, kept_of-same, kept_there, parts_changed, right_moved, sound_of, hdu_of-nowhere, hdu_of-there, hdus_of-changed, length-hdus_of, part_there, primary_there, reads_more, reads_none, reads_twice, reads_up_to, slice_get-hdus_of, works_nowhere, rooms_of-same, unread_of-same, works_of-same, works_there}
+use Rattle.fits_session.proofs.StateLemmas.{IsHduAt, absences_of-same, file_of-same, kept_of-same, kept_there, parts_changed, right_moved, sound_of, hdu_of-nowhere, hdu_of-there, hdus_of-changed, length-hdus_of, part_there, primary_there, reads_more, reads_none, reads_twice, reads_up_to, slice_get-hdus_of, works_nowhere, rooms_of-same, unread_of-same, works_of-same, works_there}
 
 -- the file with another HDU at an index is one, where that HDU is one and the file isn't too long
 pub other_kept : (f : List ℕ) (file : FileParts) (i : ℕ) (hdu : HduParts) (change : HduParts → HduParts) → IsFileOf f file → slice_get file.hdus i ≡ Some hdu → IsHdu (is_primary_hdu (suc i)) (change hdu) → length (file_bytes (with_hdu file (suc i) change)) ≤ FILE_LIMIT → IsFile (with_hdu file (suc i) change)
@@ -102,6 +102,8 @@ edits_nowhere hdus tail h edit p =
       };
       idle = idle_same (Hdu h edit) (works_of hdus);
       room = refl;
+      absences = tt;
+      away = refl;
     }
 
 -- HDUs after what the one at an index is called was read, so many cards at most, and entries mended
@@ -110,10 +112,11 @@ pub record IsFollowed (before after : List HduState) (h most : ℕ) : Type 0 whe
   pub reads : ReadsOnly h most (reads_of before) (reads_of after)
   pub works : works_of after ≡ works_of before
   pub kept : kept_of after ≡ kept_of before
+  pub absences : absences_of after ≡ absences_of before
 
 -- where nothing was read they are as before
 pub followed_none : (hdus : List HduState) (h : ℕ) → IsFollowed hdus hdus h 0
-followed_none hdus h = record { hdus = refl; reads = reads_none h 0 (reads_of hdus); works = refl; kept = refl }
+followed_none hdus h = record { hdus = refl; reads = reads_none h 0 (reads_of hdus); works = refl; kept = refl; absences = refl }
 
 -- what is known where HDU h was edited
 pub record IsEdited (hdus : List HduState) (tail : List ℕ) (h i : ℕ) (edit : HduEdit) (bytes count : ℕ) (old new : HduState) (result : Result ℕ Refusal) : Type 0 where
@@ -254,6 +257,8 @@ edits_made hdus left tail h i edit bytes count n most old new x p follows few =
       work = works hdus tail h i edit bytes count old new (Ok n) p most left follows (follow_few (stamp_follows edit old.kept) edit (hdu_made (is_primary old.header.shape.class) edit (parts_of old)) (parts_of new) most p.edits.ok few);
       idle = tt;
       room = tt;
+      absences = follows.absences ∙ absences_of-same hdus i old new p.at.index.within p.at.is p.edits.absent;
+      away = tt;
     }
 
 -- and leaves a file of so many bytes
@@ -285,6 +290,8 @@ edits_refused hdus tail h i edit bytes count old new why p =
       work = works hdus tail h i edit bytes count old new (Err why) p 0 (set hdus i new) (followed_none (set hdus i new) h) (omega arith);
       idle = idle_there hdus h i edit old new p.at.index.within p.at.is p.edits.idle;
       room = rooms_of-same hdus i old new p.at.index.within p.at.is p.edits.room;
+      absences = tt;
+      away = absences_of-same hdus i old new p.at.index.within p.at.is p.edits.absent;
     }
 
 -- and leaves the file, of as many bytes

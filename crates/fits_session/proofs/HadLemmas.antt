@@ -1,20 +1,21 @@
 -- How the data units of a session are had, and what leaves them so.
-use Rattle.std.proofs.Common.{◌≡◌, ◌<◌, sym, subst, ℕ, List, length, get_or, set, Option}
+use Rattle.std.proofs.Common.{◌≡◌, ◌<◌, ◌∙◌, ap, refl, sym, subst, ℕ, List, [], ◌∷◌, length, map, get_or, set, Option}
 use Rattle.fits_stream.specs.Stored.{ReadLogState}
 use Rattle.std.specs.Prelude.{All, Bool, true}
-use Rattle.fits_session.specs.Away.{in_file, Agree, AgreeOn, AllLie, LieStill}
+use Rattle.fits_session.specs.Away.{in_file, AllLie, IsTold, LieStill}
 use Rattle.fits_unit.specs.Again.{Follows}
-use Rattle.std.proofs.lemmas.List.Elements.{All-set}
-use Rattle.fits_hdu.specs.State.{HduState, ReadsUpTo}
-use Rattle.fits_unit.specs.DataUnit.{LiesIn}
+use Rattle.std.proofs.lemmas.List.Elements.{All-head, All-set, All-tail}
+use Rattle.fits_passing.specs.Hdu.{HduParts}
+use Rattle.fits_hdu.specs.State.{HduState, ReadsUpTo, hdu_at, parts_of, IsSeen}
+use Rattle.fits_unit.specs.DataUnit.{unit_at, Absence, IsKnown, LiesIn}
 use Rattle.fits_passing.specs.declared.called.ExtensionName.{ExtensionName}
-use Rattle.fits_session.specs.Session.{unentered, without_entries, HasPixels, HasStats, IsHeld, IsKept, IsReadyFor, IsSoOf}
+use Rattle.fits_session.specs.Session.{file_of, hdus_of, session_at, state_of, unentered, without_entries, HasPixels, HasStats, IsHeld, IsKept, IsReadyFor, IsSoOf}
 use Rattle.fits_making.specs.Making.{Holding, IsHad, IsReadyTo, StaysHad}
 use Rattle.fits_edit.specs.declared.edit.Edit.{Edit}
 use Rattle.fits_edit.specs.declared.edit.Edit.TheVariants.{Hdu, NewImage, RemoveHdu}
 use Rattle.fits_edit.specs.declared.hdu_edit.HduEdit.{HduEdit}
 use Rattle.fits_edit.specs.declared.hdu_edit.HduEdit.TheVariants.{Cards, Keep, Pixels, Release, Reshape, Stamp}
-use Rattle.fits_session.proofs.KeptLemmas.{all_seen, seen_all}
+use Rattle.fits_session.proofs.KeptLemmas.{all_seen, file_with, seen_all}
 use Rattle.fits_session.proofs.StateLemmas.{IsHduAt}
 use Rattle.fits_making.proofs.HadLemmas.{had_read, had_held}
 
@@ -40,12 +41,12 @@ had_set holding hdus i old new count within is read had =
 pub had_named : (holding : Holding) (hdus : List HduState) (i : ℕ) (old read : HduState) (entry : Option ℕ) (count : ℕ) → i < length hdus → old ≡ get_or hdus i old → ReadsUpTo old read count → All (IsHad holding) hdus → All (IsHad holding) (set hdus i (record read { entry = entry }))
 had_named holding hdus i old read entry count within is reads had =
     let one : IsHad holding read = had_read old read count reads holding (subst (IsHad holding) (sym is) (had i old within)) in
-    All-set (IsHad holding) hdus i (record read { entry = entry }) (record { held = one.held; lies = one.lies }) had
+    All-set (IsHad holding) hdus i (record read { entry = entry }) (record { held = one.held; lies = one.lies; kept = one.kept }) had
 
 -- entries in a table don't matter
 pub had_moved : (holding : Holding) (hdus others : List HduState) → without_entries hdus ≡ without_entries others → All (IsHad holding) others → All (IsHad holding) hdus
 had_moved holding hdus others same p =
-    all_seen (IsHad holding) unentered (λ one q. record { held = q.held; lies = q.lies }) hdus (subst (All (IsHad holding)) (sym same) (seen_all (IsHad holding) unentered (λ one q. record { held = q.held; lies = q.lies }) others p))
+    all_seen (IsHad holding) unentered (λ one q. record { held = q.held; lies = q.lies; kept = q.kept }) hdus (subst (All (IsHad holding)) (sym same) (seen_all (IsHad holding) unentered (λ one q. record { held = q.held; lies = q.lies; kept = q.kept }) others p))
 
 -- ---- what is in memory
 
@@ -61,13 +62,23 @@ so_pixels h hdus held i one at there kind found = so_held h hdus held i one at t
 pub so_counted : (h : ℕ) (hdus : List HduState) → All IsHeld hdus → IsSoOf HasStats h hdus
 so_counted h hdus held i one at there kind found = let here : IsHeld one = so_held h hdus held i one at there in rw here tt
 
+-- and they are seen
+pub seen_held : (one : HduState) → IsHeld one → IsSeen one
+seen_held one held = subst IsKnown (sym held) tt
+
+pub so_seen : (h : ℕ) (hdus : List HduState) → All IsHeld hdus → IsSoOf IsSeen h hdus
+so_seen h hdus held i one at there = seen_held one (so_held h hdus held i one at there)
+
+pub all_seen_held : (hdus : List HduState) → All IsHeld hdus → All IsSeen hdus
+all_seen_held hdus held = λ i d within. seen_held (get_or hdus i d) (held i d within)
+
 -- what an edit of an HDU in memory wants is
 ready_one : (edit : HduEdit) (one : HduState) → IsHeld one → IsReadyTo edit one
 ready_one (Cards edit) one held = tt
 ready_one (Pixels lo hi paint) one held = λ kind found. held
 ready_one (Reshape kind axes) one held = λ bits found. held
-ready_one Stamp one held = tt
-ready_one Keep one held = tt
+ready_one Stamp one held = subst IsKnown (sym held) tt
+ready_one Keep one held = subst IsKnown (sym held) tt
 ready_one Release one held = tt
 
 -- and any edit may be made
@@ -76,22 +87,9 @@ ready_held (Hdu h edit) hdus held = λ i one at there. ready_one edit one (so_he
 ready_held (NewImage at kind axes) hdus held = tt
 ready_held (RemoveHdu h) hdus held = tt
 
--- one of HDUs that all lie in a file does
-pub one_lies_in : (bytes : List ℕ) (hdus : List HduState) (i : ℕ) (one : HduState) → AllLie bytes hdus → i < length hdus → one ≡ get_or hdus i one → LiesIn bytes one.plane one.absent
-one_lies_in bytes hdus i one lie within is =
-    let had : IsHad (in_file bytes) one = subst (IsHad (in_file bytes)) (sym is) (lie i one within) in had.lies
-
--- what is so of all is so of one
-pub agree_on : (whole : Bool) (log : ReadLogState) (hdus : List HduState) (i : ℕ) (one : HduState) → Agree whole log hdus → i < length hdus → one ≡ get_or hdus i one → AgreeOn whole log one
-agree_on whole log hdus i one agree within is = λ lies. let all = agree.given lies in (all.0, (all.1.0, one_lies_in all.0 hdus i one all.1.1 within is))
-
--- reads that agree did so before the last of them
-pub agree_before : (whole : Bool) (old new : ReadLogState) (hdus : List HduState) → Follows old new → Agree whole new hdus → Agree whole old hdus
-agree_before whole old new hdus follows agree = record { given = λ lies. let all = agree.given lies in (all.0, (follows all.0 all.1.0, all.1.1)) }
-
--- and of HDUs that lie where those lay
-pub agree_lying : (whole : Bool) (log : ReadLogState) (old new : List HduState) → LieStill old new → Agree whole log old → Agree whole log new
-agree_lying whole log old new lie agree = record { given = λ lies. let all = agree.given lies in (all.0, (all.1.0, lie all.0 all.1.1)) }
+-- reads that some bytes may have given were so before the last of them
+pub told_before : (whole : Bool) (told : List ℕ) (old new : ReadLogState) (hdus : List HduState) → Follows old new → IsTold whole told new hdus → IsTold whole told old hdus
+told_before whole told old new hdus follows all = λ away. let own = all away in (follows told own.0, own.1)
 
 -- what a session keeps beside how its data units are had goes for any way in which they are
 pub kept_in : (holding other : Holding) (hdus : List HduState) (tail : List ℕ) (bytes : ℕ) (es : List (ExtensionName × ℕ)) (room : ℕ) → IsKept holding hdus tail bytes es room → All (IsHad other) hdus → IsKept other hdus tail bytes es room
@@ -104,3 +102,14 @@ kept_in holding other hdus tail bytes es room kept had = record {
   roomy = kept.roomy;
   had = had;
 }
+
+-- where all are in memory the parts are those of any file
+held_same : (told : List ℕ) (hdus : List HduState) → All IsHeld hdus → hdus_of (map (hdu_at told) hdus) ≡ hdus_of hdus
+held_same told [] held = refl
+held_same told (hdu ∷ hdus) held =
+    let first : parts_of (hdu_at told hdu) ≡ parts_of hdu = ap (λ (absent : Option Absence). let u : HduParts = record { header = hdu.header.header; data_unit = unit_at told hdu.plane.bytes absent } in u) (All-head IsHeld hdu hdus held) in
+    ap (λ (u : HduParts). u ∷ hdus_of (map (hdu_at told) hdus)) first ∙ ap (λ (us : List HduParts). parts_of hdu ∷ us) (held_same told hdus (All-tail IsHeld hdu hdus held))
+
+-- so is the file
+pub held_file : (told : List ℕ) (hdus : List HduState) (tail : List ℕ) → All IsHeld hdus → file_of (session_at told (state_of hdus tail)) ≡ file_of (state_of hdus tail)
+held_file told hdus tail held = file_with (hdus_of (map (hdu_at told) hdus)) (hdus_of hdus) tail (held_same told hdus held)

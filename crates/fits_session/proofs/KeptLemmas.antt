@@ -1,10 +1,11 @@
 -- What a session keeps, where counts grow and entries move.
-use Rattle.std.proofs.Common.{◌≡◌, ℕ, Bool, false, List, [], ◌∷◌, length, map, get_or, replicate, set, refl, ap, sym, subst, ◌∙◌, arith}
+use Rattle.std.proofs.Common.{◌≡◌, ℕ, Bool, false, List, [], ◌∷◌, length, map, get_or, replicate, set, refl, ap, sym, subst, ◌∙◌, arith, Option}
 use Rattle.std.specs.Prelude.{All}
 use Rattle.std.proofs.lemmas.List.{get_or-map, length-map}
-use Rattle.std.proofs.lemmas.List.Elements.{All-head, All-map, All-tail}
+use Rattle.std.proofs.lemmas.List.Elements.{All-cons, All-head, All-map, All-nil, All-tail}
 use Rattle.fits_passing.specs.Hdu.{HduParts}
-use Rattle.fits_hdu.specs.State.{HduState, ReadsUpTo, name_of, parts_of, IsDescribed}
+use Rattle.fits_unit.specs.DataUnit.{unit_at, Absence, IsKnown}
+use Rattle.fits_hdu.specs.State.{HduState, ReadsUpTo, hdu_at, name_of, parts_of, IsDescribed, IsSeen}
 use Rattle.fits_hdu.specs.Work.{IsOpened, PixelWork, plane_work}
 use Rattle.fits_passing.specs.declared.called.ExtensionName.{ExtensionName}
 use Rattle.std.specs.Map.{keys_of}
@@ -13,7 +14,7 @@ use Rattle.fits_session.specs.NameTable.{mended, names_of, Stands}
 use Rattle.fits_passing.specs.NameCounts.{IsTableOf, PointsAt}
 use Rattle.fits_making.specs.Keeping.{IsSound}
 use Rattle.fits_session.specs.Marked.{Marked, unmarked}
-use Rattle.fits_session.specs.Session.{file_of, hdus_of, kept_of, marked_of, reads_of, state_of, uncounted, unentered, without_counts, without_entries, works_of, AreNamed, IsKept}
+use Rattle.fits_session.specs.Session.{absences_of, file_of, hdus_of, kept_of, marked_of, reads_of, state_of, uncounted, unentered, without_counts, without_entries, works_of, AreNamed, IsKept}
 use Rattle.fits_making.specs.Making.{Holding, IsHad}
 use Rattle.fits_session.proofs.StateLemmas.{IsHduAt, parts_same, unkept_right}
 
@@ -73,7 +74,7 @@ kept_without holding hdus tail bytes entries room kept =
         placed = seen_all (IsPlaced (keys_of entries)) uncounted (λ one p. p) hdus kept.names.placed;
       };
       roomy = omega (arith, kept.roomy, length-map hdus uncounted);
-      had = seen_all (IsHad holding) uncounted (λ one p. record { held = p.held; lies = p.lies }) hdus kept.had;
+      had = seen_all (IsHad holding) uncounted (λ one p. record { held = p.held; lies = p.lies; kept = p.kept }) hdus kept.had;
     }
 
 -- and back
@@ -91,7 +92,7 @@ kept_with holding hdus tail bytes entries room kept =
         placed = all_seen (IsPlaced (keys_of entries)) uncounted (λ one p. p) hdus kept.names.placed;
       };
       roomy = omega (arith, kept.roomy, length-map hdus uncounted);
-      had = all_seen (IsHad holding) uncounted (λ one p. record { held = p.held; lies = p.lies }) hdus kept.had;
+      had = all_seen (IsHad holding) uncounted (λ one p. record { held = p.held; lies = p.lies; kept = p.kept }) hdus kept.had;
     }
 
 -- so it is kept where counts alone change
@@ -142,6 +143,39 @@ works_moved hdus others same = sym (works_of-unentered hdus) ∙ ap works_of sam
 -- and the same marks
 pub kept_moved : (hdus others : List HduState) → without_entries hdus ≡ without_entries others → kept_of hdus ≡ kept_of others
 kept_moved hdus others same = sym (kept_of-unentered hdus) ∙ ap kept_of same ∙ kept_of-unentered others
+
+-- where data units lie is no entry
+absences_of-unentered : (hdus : List HduState) → absences_of (without_entries hdus) ≡ absences_of hdus
+absences_of-unentered [] = refl
+absences_of-unentered (hdu ∷ hdus) = ap (λ (places : List (Option Absence)). hdu.absent ∷ places) (absences_of-unentered hdus)
+
+-- so they lie where they lay
+pub absences_moved : (hdus others : List HduState) → without_entries hdus ≡ without_entries others → absences_of hdus ≡ absences_of others
+absences_moved hdus others same = sym (absences_of-unentered hdus) ∙ ap absences_of same ∙ absences_of-unentered others
+
+-- what lies where others do is seen where they are
+pub seen_same : (new old : List HduState) → absences_of new ≡ absences_of old → All IsSeen old → All IsSeen new
+seen_same [] old same all = All-nil IsSeen
+seen_same (one ∷ new) [] same all = absurd (cc)
+seen_same (one ∷ new) (was ∷ old) same all =
+    let here : was.absent ≡ one.absent = cc in
+    let rest : absences_of new ≡ absences_of old = cc in
+    All-cons IsSeen one new (subst IsKnown here (All-head IsSeen was old all)) (seen_same new old rest (All-tail IsSeen was old all))
+
+-- and the same parts are the same in a file
+pub parts_same_at : (told : List ℕ) (new old : List HduState) → hdus_of new ≡ hdus_of old → absences_of new ≡ absences_of old → hdus_of (map (hdu_at told) new) ≡ hdus_of (map (hdu_at told) old)
+parts_same_at told [] [] parts same = refl
+parts_same_at told [] (was ∷ old) parts same = absurd (cc)
+parts_same_at told (one ∷ new) [] parts same = absurd (cc)
+parts_same_at told (one ∷ new) (was ∷ old) parts same =
+    let own : parts_of one ≡ parts_of was = cc in
+    let here : one.absent ≡ was.absent = cc in
+    let others : hdus_of new ≡ hdus_of old = cc in
+    let rest : absences_of new ≡ absences_of old = cc in
+    let first : parts_of (hdu_at told one) ≡ parts_of (hdu_at told was) =
+    ap (λ (u : HduParts). let v : HduParts = record { header = u.header; data_unit = unit_at told u.data_unit one.absent } in v) own
+    ∙ ap (λ (absent : Option Absence). let v : HduParts = record { header = was.header.header; data_unit = unit_at told was.plane.bytes absent } in v) here in
+    ap (λ (u : HduParts). u ∷ hdus_of (map (hdu_at told) new)) first ∙ ap (λ (us : List HduParts). parts_of (hdu_at told was) ∷ us) (parts_same_at told new old others rest)
 
 -- an HDU of a session has the shape that its cards describe
 pub described_at : (hdus : List HduState) (h i : ℕ) (hdu : HduState) → All IsDescribed hdus → IsHduAt hdus h i hdu → IsDescribed hdu
@@ -201,6 +235,15 @@ kept_as holding hdus tail bytes entries others room now same still kept = record
   roomy = still ∙ kept.roomy;
   had = kept.had;
 }
+
+-- where data units lie is no count
+absences_of-uncounted : (hdus : List HduState) → absences_of (without_counts hdus) ≡ absences_of hdus
+absences_of-uncounted [] = refl
+absences_of-uncounted (hdu ∷ hdus) = ap (λ (places : List (Option Absence)). hdu.absent ∷ places) (absences_of-uncounted hdus)
+
+-- so they lie where they lay
+pub absences_counted : (hdus others : List HduState) → without_counts others ≡ without_counts hdus → absences_of others ≡ absences_of hdus
+absences_counted hdus others same = sym (absences_of-uncounted others) ∙ ap absences_of same ∙ absences_of-uncounted hdus
 
 -- the file and its marks stay where counts alone change
 pub marked_counted : (hdus others : List HduState) (tail : List ℕ) → without_counts others ≡ without_counts hdus → marked_of (state_of others tail) ≡ marked_of (state_of hdus tail)

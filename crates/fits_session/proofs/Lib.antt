@@ -2,8 +2,10 @@ pub mod AwayLemmas
 pub mod ChangeLemmas
 pub mod CountLemmas
 pub mod EditLemmas
+pub mod FilledLemmas
 pub mod GuardLemmas
 pub mod HadLemmas
+pub mod HeaderLemmas
 pub mod KeptLemmas
 pub mod LawLemmas
 pub mod ListEditLemmas
@@ -19,5 +21,6 @@ pub mod SaveLemmas
 pub mod StandingLemmas
 pub mod StateLemmas
 pub mod TableLemmas
+pub mod ToldLemmas
 pub mod VouchLemmas
 pub mod WalkLemmas

@@ -23,14 +23,14 @@ use Rattle.fits_passing.specs.declared.limits.TheConstants.{FILE_LIMIT, HDU_LIMI
 use Rattle.fits_session.specs.Refusal.{new_image_refusal, primary_refusal, refusal_of, removal_refusal, size_refusal, NewNeedsMemory}
 use Rattle.fits_making.specs.Refusal.{Fails}
 use Rattle.fits_session.specs.Marked.{Marked, marked_after, marked_refusal}
-use Rattle.fits_session.specs.Session.{file_of, hdus_of, kept_of, marked_of, state_of, unentered, without_entries, EditsTo, IsIndexOf, IsNowhere, SessionState}
+use Rattle.fits_session.specs.Session.{absences_of, file_of, hdus_of, kept_of, marked_of, state_of, unentered, without_entries, EditsTo, IsIndexOf, IsNowhere, SessionState}
 use Rattle.fits_edit.specs.declared.edit.Edit.TheVariants.{NewImage, RemoveHdu}
 use Rattle.fits_making.specs.declared.refusal.Refusal.{Refusal}
 use Rattle.fits_making.specs.declared.refusal.Refusal.TheVariants as refusal
 use Rattle.fits_making.proofs.MakingLemmas.{kept_limits, limit_none, within_limits}
 use Rattle.fits_passing.proofs.FrontLemmas.{goes_on-some, some_hdus}
 use Rattle.indexmap.proofs.SetLemmas.{map-remove}
-use Rattle.fits_session.proofs.KeptLemmas.{file_of-unentered, kept_moved}
+use Rattle.fits_session.proofs.KeptLemmas.{absences_moved, file_of-unentered, kept_moved}
 use Rattle.fits_session.proofs.StateLemmas.{IsHduAt, hdu_of-nowhere, hdu_of-there, length-hdus_of, slice_get-hdus_of}
 
 -- how many bytes HDUs have where one is put in
@@ -207,7 +207,7 @@ tests_are hdus tail h kind axes = ap (λ n. tests_of (is_within h (n + 1)) (h ==
 -- a new image that is refused owes this
 pub new_refused : {X : Type 0} (hdus : List HduState) (tail : List ℕ) (h : ℕ) (kind : Kind) (axes : List ℕ) (why : Refusal) → Fails NewNeedsMemory (new_image_refusal (file_of (state_of hdus tail)) h kind axes) why → EditsTo {X = X} (NewImage h kind axes) (state_of hdus tail) (state_of hdus tail) (Err why)
 unfolding marked_refusal refusal_of
-new_refused hdus tail h kind axes why p = record { accepted = tt; ok = tt; refused = p; err = refl; work = inl refl; idle = refl; room = refl }
+new_refused hdus tail h kind axes why p = record { accepted = tt; ok = tt; refused = p; err = refl; work = inl refl; idle = refl; room = refl; absences = tt; away = refl }
 
 -- it has no place
 pub new_nowhere : {X : Type 0} (hdus : List HduState) (tail : List ℕ) (h : ℕ) (kind : Kind) (axes : List ℕ) → is_within h (length hdus + 1) ≡ false → EditsTo {X = X} (NewImage h kind axes) (state_of hdus tail) (state_of hdus tail) (Err refusal.NoHdu)
@@ -320,10 +320,10 @@ new_fits hdus tail h kind axes p few short =
     (kept_limits (length (file_bytes after)) (length after.hdus) (omega (arith, short, new_length hdus tail h (new_image kind axes))) (omega (arith, few, new_count hdus tail h axes (new_image kind axes) p)))
 
 -- a new image that is put in owes this
-pub new_made : {X : Type 0} (hdus : List HduState) (tail : List ℕ) (h : ℕ) (x : X) (kind : Kind) (axes : List ℕ) (new : HduState) → IsPlaced (length hdus) h axes → image_sized hdus tail h kind axes ≡ None → parts_of new ≡ new_image kind axes → new.kept ≡ false → new.header.reads ≤ open_reads new.header.header.cards → IsMade (block_count new.plane.bytes) (plane_work new.plane)
+pub new_made : {X : Type 0} (hdus : List HduState) (tail : List ℕ) (h : ℕ) (x : X) (kind : Kind) (axes : List ℕ) (new : HduState) → IsPlaced (length hdus) h axes → image_sized hdus tail h kind axes ≡ None → parts_of new ≡ new_image kind axes → new.kept ≡ false → new.absent ≡ None → new.header.reads ≤ open_reads new.header.header.cards → IsMade (block_count new.plane.bytes) (plane_work new.plane)
     → EditsTo {X = X} (NewImage h kind axes) (state_of hdus tail) (state_of (insert hdus (h - 1) new) tail) (Ok x)
 unfolding marked_refusal marked_after refusal_of file_after
-new_made hdus tail h x kind axes new p fits is mark reads made = record {
+new_made hdus tail h x kind axes new p fits is mark held reads made = record {
   accepted = tests_placed hdus tail h kind axes p ∙ fits;
   ok = marked_both (state_of (insert hdus (h - 1) new) tail) (with_new_hdu (file_of (state_of hdus tail)) h (new_image kind axes)) (insert (kept_of hdus) (h - 1) false) (file_of-inserted hdus tail h new (new_image kind axes) is)
       (map-inserted (λ (one : HduState). one.kept) hdus (h - 1) new ∙ ap (insert (kept_of hdus) (h - 1)) mark);
@@ -332,6 +332,8 @@ new_made hdus tail h x kind axes new p fits is mark reads made = record {
   work = inr (record { one = new; is = refl; reads = reads; made = made });
   idle = tt;
   room = tt;
+  absences = map-inserted (λ (one : HduState). one.absent) hdus (h - 1) new ∙ ap (insert (absences_of hdus) (h - 1)) held;
+  away = tt;
 }
 
 -- it leaves a file
@@ -348,7 +350,7 @@ new_size hdus tail h hdu new is = ap (λ (f : FileParts). length (file_bytes f))
 -- an HDU that isn't there doesn't go
 pub removes_nowhere : {X : Type 0} (hdus : List HduState) (tail : List ℕ) (h : ℕ) → IsNowhere (length hdus) h → EditsTo {X = X} (RemoveHdu h) (state_of hdus tail) (state_of hdus tail) (Err refusal.NoHdu)
 unfolding marked_refusal refusal_of
-removes_nowhere hdus tail h p = record { accepted = tt; ok = tt; refused = inl (ap (removal_refusal h) (hdu_of-nowhere hdus tail h p)); err = refl; work = inl refl; idle = refl; room = refl }
+removes_nowhere hdus tail h p = record { accepted = tt; ok = tt; refused = inl (ap (removal_refusal h) (hdu_of-nowhere hdus tail h p)); err = refl; work = inl refl; idle = refl; room = refl; absences = tt; away = refl }
 
 -- the primary HDU is there
 primary_is_there : (hdus : List HduState) (tail : List ℕ) (h : ℕ) → 0 < length hdus → h ≡ 1 → removal_refusal h (hdu_of (file_of (state_of hdus tail)) h) ≡ Some refusal.PrimaryStays
@@ -358,7 +360,7 @@ primary_is_there (v ∷ vs) tail h some is = let file : FileParts = file_of (sta
 -- and stays
 pub primary_stays : {X : Type 0} (hdus : List HduState) (tail : List ℕ) (h i : ℕ) → IsIndexOf (length hdus) h i → i ≡ 0 → EditsTo {X = X} (RemoveHdu h) (state_of hdus tail) (state_of hdus tail) (Err refusal.PrimaryStays)
 unfolding marked_refusal refusal_of
-primary_stays hdus tail h i at zero_is = record { accepted = tt; ok = tt; refused = inl (primary_is_there hdus tail h (omega (arith, at.within)) (omega (arith, at.at, zero_is))); err = refl; work = inl refl; idle = refl; room = refl }
+primary_stays hdus tail h i at zero_is = record { accepted = tt; ok = tt; refused = inl (primary_is_there hdus tail h (omega (arith, at.within)) (omega (arith, at.at, zero_is))); err = refl; work = inl refl; idle = refl; room = refl; absences = tt; away = refl }
 
 -- another may go
 goes : (h i : ℕ) → h ≡ i + 1 → 0 < i → primary_refusal h ≡ None
@@ -380,6 +382,8 @@ removes hdus left tail h i x old at behind same =
       work = inr (same ∙ map-remove unentered hdus i ∙ ap (remove (without_entries hdus)) index);
       idle = tt;
       room = tt;
+      absences = absences_moved left (remove hdus i) same ∙ (map-left (λ (one : HduState). one.absent) hdus i ∙ ap (remove (absences_of hdus)) index);
+      away = tt;
     }
 
 -- it leaves a file

@@ -56,7 +56,7 @@ all_more P hdus i new within p q = subst (All P) (sym (take_more_set hdus i new 
 pub opened_more : (hdu read : HduState) (entry : Option ℕ) → IsOpened 0 hdu → ReadsUpTo hdu read name_reads → IsOpened name_reads (with_entry read entry)
 opened_more hdu read entry opened r = record {
   reads = rw r.header.header (omega (arith, opened.reads, r.header.most));
-  scans = rw r.plane opened.scans;
+  scans = rw (r.absent, r.plane) opened.scans;
   kept = r.kept ∙ opened.kept;
 }
 

@@ -36,7 +36,7 @@ use Rattle.fits_session.specs.Session.{file_of, kept_of, marked_of, read_more, s
 use Rattle.fits_session.specs.Work.{reads_in, value_reads}
 use Rattle.fits_making.specs.declared.refusal.Refusal.{Refusal}
 use Rattle.fits_making.specs.declared.refusal.Refusal.TheVariants as refusal
-use Rattle.fits_session.proofs.StateLemmas.{IsHduAt, hdu_of-there, described_there, asked, kept_there, marked_of-same, reads_of-same, works_changed}
+use Rattle.fits_session.proofs.StateLemmas.{absences_of-same, IsHduAt, hdu_of-there, described_there, asked, kept_there, marked_of-same, reads_of-same, works_changed}
 
 -- how many cards HDU h has
 pub count_there : (hdus : List HduState) (tail : List ℕ) (h i n : ℕ) (hdu : HduState) → IsHduAt hdus h i hdu → n ≡ length hdu.header.header.cards → Path (Result ℕ Refusal) (Ok n) (card_count_in (file_of (state_of hdus tail)) h)
@@ -201,6 +201,7 @@ rect_asks hdus tail h i count old new at is = record {
   file = marked_of-same hdus tail h i old new at (ap parts_of is) (ap (λ (one : HduState). one.kept) is);
   work = reads_of-same hdus i old new at.index.within at.is (ap (λ (state : HduState). state.header.reads) is);
   pixel_work = works_changed hdus h i old new (read_more count) at (ap (λ (state : HduState). plane_work state.plane) is);
+  absences = absences_of-same hdus i old new at.index.within at.is (ap (λ (state : HduState). state.absent) is);
 }
 
 -- the places of a name

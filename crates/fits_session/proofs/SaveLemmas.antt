@@ -1,24 +1,27 @@
 -- Steps of saving: HDU after HDU, then the tail.
-use Rattle.std.proofs.Common.{◌≡◌, Bool, ℕ, ◌+◌, ◌%◌, ◌<◌, ◌≤◌, List, [], ◌∷◌, ◌++◌, length, take, drop, get_or, set, refl, ap, sym, subst, ◌∙◌, arith, zero, suc, add-one, inl, inr}
+use Rattle.std.proofs.Common.{◌≡◌, Bool, ℕ, ◌+◌, ◌%◌, ◌<◌, ◌≤◌, List, [], ◌∷◌, ◌++◌, length, map, take, drop, get_or, set, refl, ap, sym, subst, ◌∙◌, arith, zero, suc, add-one, inl, inr}
 use Rattle.std.proofs.lemmas.Bool.{cases_lt}
 use Rattle.std.proofs.Math.Seq.{take-append_seam}
-use Rattle.std.proofs.lemmas.List.{append-nil, length-append, take_all, take_more, drop_more, take-append-drop, take-append-le}
+use Rattle.std.proofs.lemmas.List.{append-nil, get_or-map, length-append, length-map, take_all, take_more, drop_more, take-append-drop, take-append-le}
 use Rattle.std.proofs.lemmas.List.Concat.{flat_map-append}
-use Rattle.fits_unit.specs.Again.{CopyFails, PrintsLike}
+use Rattle.std.specs.Prelude.{All}
+use Rattle.fits_sum.specs.Words.{word_total}
+use Rattle.fits_sum.proofs.WordLemmas.{totals_add}
+use Rattle.fits_unit.specs.Again.{CopyFails, PrintsAs}
 use Rattle.fits_unit.specs.declared.again.CopyFault.{CopyFault}
 use Rattle.fits_unit.specs.declared.again.CopyFault.TheVariants.{Failed, Changed, Write}
 use Rattle.fits_stream.specs.Stream.{SinkState, Prints, PrintsFront}
 use Rattle.fits_stream.proofs.StreamLemmas.{Prints-none, Prints-more, PrintsFront-longer, PrintsFront-more}
 use Rattle.fits_header.specs.State.{HeaderState}
 use Rattle.fits_passing.specs.Hdu.{HduParts, hdu_bytes, IsHdu}
-use Rattle.fits_hdu.specs.State.{HduState, ReadsUpTo, parts_of}
-use Rattle.fits_hdu.specs.Work.{PixelWork, plane_work, WritesHdu}
+use Rattle.fits_hdu.specs.State.{HduState, ReadsUpTo, hdu_at, parts_of, IsSeen}
+use Rattle.fits_hdu.specs.Work.{PixelWork, plane_work, HasHduTotal, WritesHdu}
 use Rattle.fits_session.specs.Away.{WritesHdus}
 use Rattle.fits_stream.specs.Stored.{ReadLogState}
 use Rattle.fits_hdu.proofs.PassedLemmas.{copy_more, hdu_words, like_append, like_printed}
 use Rattle.fits_passing.specs.File.{joined_hdus}
-use Rattle.fits_session.specs.Session.{hdus_of, reads_of, works_of, once_read, each_read, uncounted, without_counts, ReadsOnceAtMost}
-use Rattle.fits_session.proofs.KeptLemmas.{uncounted_read}
+use Rattle.fits_session.specs.Session.{absences_of, hdus_of, reads_of, works_of, once_read, each_read, uncounted, without_counts, ReadsOnceAtMost}
+use Rattle.fits_session.proofs.KeptLemmas.{seen_same, uncounted_read}
 use Rattle.fits_session.proofs.StateLemmas.{get_or-hdus_of, hdus_of-same, length-hdus_of, parts_same, works_of-same}
 
 -- HDU i of those that are there
@@ -72,10 +75,24 @@ copy_hdu a b c hdus us i hdu why same l e p q =
 pub copy_hdus : (us : List HduParts) (tail : List ℕ) (a c : SinkState) (why : CopyFault) → CopyFails (joined_hdus us) a c why → CopyFails (joined_hdus us ++ tail) a c why
 copy_hdus us tail a c why p = copy_longer (joined_hdus us) tail a c why p
 
+-- bytes have the total of these, where all of the HDUs are known
+abbrev pub HaveTotal : List HduState → List ℕ → List ℕ → Type 0
+HaveTotal hdus whole bytes = All IsSeen hdus → word_total bytes ≡ word_total whole
+
+-- those of two, one after the other
+both_total : (hdus : List HduState) (front own : List ℕ) (one : HduState) → (All IsSeen hdus → IsSeen one) → own ≡ hdu_bytes (parts_of one) → length front % 4 ≡ 0 → (xs ys : List ℕ) → length xs ≡ length front → length ys ≡ length own → HaveTotal hdus front xs → HasHduTotal one ys → HaveTotal hdus (front ++ own) (xs ++ ys)
+both_total hdus front own one sees is words xs ys m n p q seen =
+    totals_add xs ys (omega (arith, m, words)) ∙ ap (λ k. k + word_total ys) (p seen) ∙ ap (λ k. word_total front + k) (q (sees seen) ∙ ap word_total (sym is)) ∙ sym (totals_add front own words)
+
 -- bytes like one HDU more
-pub like_hdu : (a b c : SinkState) (hdus : List HduState) (us : List HduParts) (i : ℕ) (hdu : HduState) → hdus_of hdus ≡ us → i < length hdus → hdu ≡ get_or hdus i hdu → length (joined_hdus (take i us)) % 4 ≡ 0 → PrintsLike (joined_hdus (take i us)) a b → PrintsLike (hdu_bytes (parts_of hdu)) b c → PrintsLike (joined_hdus (take (i + 1) us)) a c
-like_hdu a b c hdus us i hdu same l e words p q =
-    rw (joined_more hdus us i hdu same l e) (like_append (joined_hdus (take i us)) (hdu_bytes (parts_of hdu)) a b c words p q)
+pub like_hdu : (a b c : SinkState) (hdus old : List HduState) (us : List HduParts) (i : ℕ) (hdu : HduState) → hdus_of hdus ≡ us → absences_of hdus ≡ absences_of old → i < length hdus → hdu ≡ get_or hdus i hdu → length (joined_hdus (take i us)) % 4 ≡ 0
+    → PrintsAs (HaveTotal old (joined_hdus (take i us))) (length (joined_hdus (take i us))) a b → PrintsAs (HasHduTotal hdu) (length (hdu_bytes (parts_of hdu))) b c → PrintsAs (HaveTotal old (joined_hdus (take (i + 1) us))) (length (joined_hdus (take (i + 1) us))) a c
+like_hdu a b c hdus old us i hdu same lie l e words p q =
+    let front : List ℕ = joined_hdus (take i us) in
+    let own : List ℕ = hdu_bytes (parts_of hdu) in
+    let sees : All IsSeen old → IsSeen hdu = λ seen. subst (λ (one : HduState). IsSeen one) (sym e) (seen_same hdus old lie seen i hdu l) in
+    let both : PrintsAs (HaveTotal old (front ++ own)) (length front + length own) a c = like_append (HaveTotal old front) (HasHduTotal hdu) (HaveTotal old (front ++ own)) (length front) (length own) a b c (λ xs ys m n. both_total old front own hdu sees refl words xs ys m n) p q in
+    rw (joined_more hdus us i hdu same l e) (subst (λ n. PrintsAs (HaveTotal old (front ++ own)) n a c) (sym (length-append front own)) both)
 
 -- those of one HDU more are of whole words
 pub words_hdu : (hdus : List HduState) (us : List HduParts) (i : ℕ) (hdu : HduState) (primary : Bool) → hdus_of hdus ≡ us → i < length hdus → hdu ≡ get_or hdus i hdu → IsHdu primary (parts_of hdu) → length (joined_hdus (take i us)) % 4 ≡ 0 → length (joined_hdus (take (i + 1) us)) % 4 ≡ 0
@@ -83,28 +100,45 @@ words_hdu hdus us i hdu primary same l e whole words =
     omega (arith, ap length (joined_more hdus us i hdu same l e), length-append (joined_hdus (take i us)) (hdu_bytes (parts_of hdu)), hdu_words primary (parts_of hdu) whole, words)
 
 -- none of them yet
-pub like_none : (a : SinkState) (us : List HduParts) → PrintsLike (joined_hdus (take 0 us)) a a
-like_none a us = record { like = []; size = refl; total = refl; written = Prints-none a }
+pub like_none : (a : SinkState) (hdus : List HduState) (us : List HduParts) → PrintsAs (HaveTotal hdus (joined_hdus (take 0 us))) (length (joined_hdus (take 0 us))) a a
+like_none a hdus us = record { like = []; size = refl; is = λ seen. refl; written = Prints-none a }
 
 -- nor their words
 pub words_none : (us : List HduParts) → length (joined_hdus (take 0 us)) % 4 ≡ 0
 words_none us = refl
 
 -- all of them
-pub like_hdus : (a b : SinkState) (us : List HduParts) (i : ℕ) → length us ≤ i → PrintsLike (joined_hdus (take i us)) a b → PrintsLike (joined_hdus us) a b
-like_hdus a b us i l p = rw (take_all i us l) at p
+pub like_hdus : (a b : SinkState) (hdus : List HduState) (us : List HduParts) (i : ℕ) → length us ≤ i → PrintsAs (HaveTotal hdus (joined_hdus (take i us))) (length (joined_hdus (take i us))) a b → PrintsAs (HaveTotal hdus (joined_hdus us)) (length (joined_hdus us)) a b
+like_hdus a b hdus us i l p = rw (take_all i us l) at p
 
 -- and their words
 pub words_hdus : (us : List HduParts) (i : ℕ) → length us ≤ i → length (joined_hdus (take i us)) % 4 ≡ 0 → length (joined_hdus us) % 4 ≡ 0
 words_hdus us i l p = rw (take_all i us l) at p
 
 -- and then the tail
-pub like_tail : (us : List HduParts) (tail : List ℕ) (a b c : SinkState) → length (joined_hdus us) % 4 ≡ 0 → PrintsLike (joined_hdus us) a b → Prints tail b c → PrintsLike (joined_hdus us ++ tail) a c
-like_tail us tail a b c words p q = like_printed (joined_hdus us) tail a b c words p q
+pub like_tail : (hdus : List HduState) (us : List HduParts) (tail : List ℕ) (a b c : SinkState) → length (joined_hdus us) % 4 ≡ 0 → PrintsAs (HaveTotal hdus (joined_hdus us)) (length (joined_hdus us)) a b → Prints tail b c → PrintsAs (HaveTotal hdus (joined_hdus us ++ tail)) (length (joined_hdus us ++ tail)) a c
+like_tail hdus us tail a b c words p q =
+    let front : List ℕ = joined_hdus us in
+    let both : PrintsAs (HaveTotal hdus (front ++ tail)) (length front + length tail) a c =
+    like_append (HaveTotal hdus front) (λ bytes. bytes ≡ tail) (HaveTotal hdus (front ++ tail)) (length front) (length tail) a b c
+    (λ xs ys m n P Q seen. totals_add xs ys (omega (arith, m, words)) ∙ ap (λ k. k + word_total ys) (P seen) ∙ ap (λ (t : List ℕ). word_total front + word_total t) Q ∙ sym (totals_add front tail words)) p (like_printed tail b c q) in
+    subst (λ n. PrintsAs (HaveTotal hdus (front ++ tail)) n a c) (sym (length-append front tail)) both
 
 -- none of them yet
 pub Prints-no_hdus : (a : SinkState) (us : List HduParts) → Prints (joined_hdus (take 0 us)) a a
 Prints-no_hdus a us = Prints-none a
+
+-- one more HDU, as a file has it
+pub Prints-hdu_at : (told : List ℕ) (a b c : SinkState) (hdus : List HduState) (us : List HduParts) (i : ℕ) (hdu : HduState) → hdus_of (map (hdu_at told) hdus) ≡ us → i < length hdus → hdu ≡ get_or hdus i hdu → Prints (joined_hdus (take i us)) a b → Prints (hdu_bytes (parts_of (hdu_at told hdu))) b c
+    → Prints (joined_hdus (take (i + 1) us)) a c
+Prints-hdu_at told a b c hdus us i hdu same l e p q =
+    Prints-hdu a b c (map (hdu_at told) hdus) us i (hdu_at told hdu) same (omega (arith, l, length-map hdus (hdu_at told))) (ap (hdu_at told) e ∙ sym (get_or-map (hdu_at told) hdus i hdu (hdu_at told hdu) l)) p q
+
+-- one of them wasn't copied whole
+pub copy_hdu_at : (told : List ℕ) (a b c : SinkState) (hdus : List HduState) (us : List HduParts) (i : ℕ) (hdu : HduState) (why : CopyFault) → hdus_of (map (hdu_at told) hdus) ≡ us → i < length hdus → hdu ≡ get_or hdus i hdu → Prints (joined_hdus (take i us)) a b → CopyFails (hdu_bytes (parts_of (hdu_at told hdu))) b c why
+    → CopyFails (joined_hdus us) a c why
+copy_hdu_at told a b c hdus us i hdu why same l e p q =
+    copy_hdu a b c (map (hdu_at told) hdus) us i (hdu_at told hdu) why same (omega (arith, l, length-map hdus (hdu_at told))) (ap (hdu_at told) e ∙ sym (get_or-map (hdu_at told) hdus i hdu (hdu_at told hdu) l)) p q
 
 -- all of them
 pub Prints-hdus : (a b : SinkState) (us : List HduParts) (i : ℕ) → length us ≤ i → Prints (joined_hdus (take i us)) a b → Prints (joined_hdus us) a b

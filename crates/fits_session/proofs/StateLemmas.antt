@@ -19,7 +19,7 @@ use Rattle.fits_passing.specs.File.{is_primary_hdu, FileParts, IsFile, file_byte
 use Rattle.fits_passing.specs.declared.limits.TheConstants.{FILE_LIMIT, HDU_LIMIT}
 use Rattle.fits_making.specs.Keeping.{vouch, IsRight, IsSound}
 use Rattle.fits_session.specs.Marked.{Marked, is_kept}
-use Rattle.fits_session.specs.Session.{SessionState, file_of, hdus_of, kept_of, marked_of, reads_of, rooms_of, works_of, state_of, ReadsOnly, WorksOnly, Asks, IsIndexOf, IsNowhere}
+use Rattle.fits_session.specs.Session.{SessionState, absences_of, file_of, hdus_of, kept_of, marked_of, reads_of, rooms_of, works_of, state_of, ReadsOnly, WorksOnly, Asks, IsIndexOf, IsNowhere}
 use Rattle.fits_making.specs.Making.{unread}
 use Rattle.fits_session.proofs.ChangeLemmas.{hdu_is, part_within}
 
@@ -189,6 +189,10 @@ rooms_of-same hdus i old new l e p = parts_same (λ (one : HduState). one.header
 pub kept_of-same : (hdus : List HduState) (i : ℕ) (old new : HduState) → i < length hdus → old ≡ get_or hdus i old → new.kept ≡ old.kept → kept_of (set hdus i new) ≡ kept_of hdus
 kept_of-same hdus i old new l e p = parts_same (λ (one : HduState). one.kept) hdus i old new l e p
 
+-- nor does the data unit of another lie elsewhere
+pub absences_of-same : (hdus : List HduState) (i : ℕ) (old new : HduState) → i < length hdus → old ≡ get_or hdus i old → new.absent ≡ old.absent → absences_of (set hdus i new) ≡ absences_of hdus
+absences_of-same hdus i old new l e p = parts_same (λ (one : HduState). one.absent) hdus i old new l e p
+
 -- whether the HDU at an index is kept
 kept_at : (hdus : List HduState) (i : ℕ) (hdu : HduState) → i < length hdus → hdu ≡ get_or hdus i hdu → get_or (kept_of hdus) i false ≡ hdu.kept
 kept_at hdus i hdu l e =
@@ -275,11 +279,12 @@ asked hdus tail h i most old new at p = record {
   file = marked_of-same hdus tail h i old new at (parts_read old new _ p) p.kept;
   work = reads_more hdus h i most old new at p.header.least p.header.most;
   pixel_work = works_of-same hdus i old new at.index.within at.is (ap plane_work p.plane);
+  absences = absences_of-same hdus i old new at.index.within at.is p.absent;
 }
 
 -- a query read none
 pub asked_none : (h most : ℕ) (session : SessionState) → Asks h most session session
-asked_none h most session = record { file = refl; work = reads_none h most (reads_of session.hdus); pixel_work = refl }
+asked_none h most session = record { file = refl; work = reads_none h most (reads_of session.hdus); pixel_work = refl; absences = refl }
 
 -- the HDU at an index
 pub get_or-hdus_of : (hdus : List HduState) (i : ℕ) (hdu : HduState) → i < length hdus → hdu ≡ get_or hdus i hdu → get_or (hdus_of hdus) i (parts_of hdu) ≡ parts_of hdu

@@ -1,10 +1,12 @@
 -- Marks by sums: what stays where HDUs are kept whose sums vouch for them.
 use Rattle.std.proofs.Common.{◌≡◌, ℕ, ◌+◌, ◌<◌, ◌≤◌, ◌^◌, Bool, List, [], ◌∷◌, ◌++◌, drop, get_or, length, map, take, refl, ap, sym, subst, ◌∙◌, arith}
 use Rattle.std.proofs.lemmas.List.{drop_more, get_or_at, length-append, length-map, length-take}
+use Rattle.std.specs.Prelude.{All}
 use Rattle.std.specs.Map.{keys_of}
+use Rattle.std.proofs.lemmas.List.Elements.{All-cons, All-head, All-nil, All-tail}
 use Rattle.fits_card.specs.Header.{header_bytes}
 use Rattle.fits_passing.specs.Hdu.{HduParts, hdu_bytes}
-use Rattle.fits_hdu.specs.State.{HduState, name_of, parts_of, IsDescribed}
+use Rattle.fits_hdu.specs.State.{HduState, name_of, parts_of, IsDescribed, IsSeen}
 use Rattle.fits_passing.specs.Sums.{verdicts_of}
 use Rattle.fits_passing.specs.declared.called.ExtensionName.{ExtensionName}
 use Rattle.fits_passing.specs.File.{FileParts, file_bytes, joined_hdus, IsFile}
@@ -38,10 +40,23 @@ pub marked_vouched : (hdus : List HduState) (tail : List ℕ) → marked_of (sta
 marked_vouched hdus tail =
     marked_with (hdus_of (map vouched_one hdus)) (hdus_of hdus) tail (kept_of (map vouched_one hdus)) (map (λ (hdu : HduParts). vouch (verdicts_of hdu)) (hdus_of hdus)) (hdus_of-vouched hdus) (kept_of-vouched hdus)
 
+-- where all are seen they are had, whichever are marked
+had_vouched : (holding : Holding) (hdus : List HduState) → All IsSeen hdus → All (IsHad holding) hdus → All (IsHad holding) (map vouched_one hdus)
+had_vouched holding [] seen had = All-nil (IsHad holding)
+had_vouched holding (hdu ∷ hdus) seen had =
+    let own = All-head (IsHad holding) hdu hdus had in
+    let here = All-head IsSeen hdu hdus seen in
+    All-cons (IsHad holding) (vouched_one hdu) (map vouched_one hdus) (record { held = own.held; lies = own.lies; kept = λ on. here }) (had_vouched holding hdus (All-tail IsSeen hdu hdus seen) (All-tail (IsHad holding) hdu hdus had))
+
+-- a mark hides none
+pub seen_marked : (hdus : List HduState) → All IsSeen hdus → All IsSeen (map vouched_one hdus)
+seen_marked [] seen = All-nil IsSeen
+seen_marked (hdu ∷ hdus) seen = All-cons IsSeen (vouched_one hdu) (map vouched_one hdus) (All-head IsSeen hdu hdus seen) (seen_marked hdus (All-tail IsSeen hdu hdus seen))
+
 -- and what a session keeps is kept
-kept_vouched : (holding : Holding) (hdus : List HduState) (tail : List ℕ) (bytes : ℕ) (entries : List (ExtensionName × ℕ)) (room : ℕ) → IsKept holding hdus tail bytes entries room → IsKept holding (map vouched_one hdus) tail bytes entries room
+kept_vouched : (holding : Holding) (hdus : List HduState) (tail : List ℕ) (bytes : ℕ) (entries : List (ExtensionName × ℕ)) (room : ℕ) → All IsSeen hdus → IsKept holding hdus tail bytes entries room → IsKept holding (map vouched_one hdus) tail bytes entries room
 unfolding IsPlaced
-kept_vouched holding hdus tail bytes entries room kept =
+kept_vouched holding hdus tail bytes entries room seen kept =
     let same = sym (file_with (hdus_of (map vouched_one hdus)) (hdus_of hdus) tail (hdus_of-vouched hdus)) in
     record {
       whole = subst (λ (f : FileParts). IsFile f) same kept.whole;
@@ -53,18 +68,27 @@ kept_vouched holding hdus tail bytes entries room kept =
         placed = seen_all (IsPlaced (keys_of entries)) vouched_one (λ one p. p) hdus kept.names.placed;
       };
       roomy = omega (arith, kept.roomy, length-map hdus vouched_one);
-      had = seen_all (IsHad holding) vouched_one (λ one p. record { held = p.held; lies = p.lies }) hdus kept.had;
+      had = had_vouched holding hdus seen kept.had;
     }
 
 -- also of HDUs that are these
-pub kept_marked : (holding : Holding) (hdus others : List HduState) (tail : List ℕ) (bytes : ℕ) (entries : List (ExtensionName × ℕ)) (room : ℕ) → others ≡ map vouched_one hdus → IsKept holding hdus tail bytes entries room → IsKept holding others tail bytes entries room
-kept_marked holding hdus others tail bytes entries room are kept = subst (λ (us : List HduState). IsKept holding us tail bytes entries room) (sym are) (kept_vouched holding hdus tail bytes entries room kept)
+pub kept_marked : (holding : Holding) (hdus others : List HduState) (tail : List ℕ) (bytes : ℕ) (entries : List (ExtensionName × ℕ)) (room : ℕ) → others ≡ map vouched_one hdus → All IsSeen hdus → IsKept holding hdus tail bytes entries room → IsKept holding others tail bytes entries room
+kept_marked holding hdus others tail bytes entries room are seen kept = subst (λ (us : List HduState). IsKept holding us tail bytes entries room) (sym are) (kept_vouched holding hdus tail bytes entries room seen kept)
 
--- an HDU that comes next is as it was, and no longer than its file
-pub small_ahead : (hdus us : List HduState) (i : ℕ) (hdu : HduState) → length (joined_hdus (hdus_of hdus)) ≤ FILE_LIMIT → i < length hdus → us ≡ map vouched_one (take i hdus) ++ drop i hdus → hdu ≡ get_or us i hdu → length (hdu_bytes (parts_of hdu)) ≤ 2 ^ 34
-small_ahead hdus us i hdu small within is there =
+-- an HDU that comes next is as it was
+as_ahead : (hdus us : List HduState) (i : ℕ) (hdu : HduState) → i < length hdus → us ≡ map vouched_one (take i hdus) ++ drop i hdus → hdu ≡ get_or us i hdu → hdu ≡ get_or hdus i hdu
+as_ahead hdus us i hdu within is there =
     let front : List HduState = map vouched_one (take i hdus) in
     let long : length front ≡ i = length-map (take i hdus) vouched_one ∙ omega (arith, within, length-take i hdus) in
     let parts : us ≡ front ++ get_or hdus i hdu ∷ drop (i + 1) hdus = is ∙ ap (λ rest. front ++ rest) (drop_more hdus i hdu within) in
-    let read : hdu ≡ get_or hdus i hdu = there ∙ ap (λ rest. get_or rest i hdu) parts ∙ get_or_at front (get_or hdus i hdu) (drop (i + 1) hdus) hdu i long in
+    there ∙ ap (λ rest. get_or rest i hdu) parts ∙ get_or_at front (get_or hdus i hdu) (drop (i + 1) hdus) hdu i long
+
+-- so it is seen
+pub seen_ahead : (hdus us : List HduState) (i : ℕ) (hdu : HduState) → All IsSeen hdus → i < length hdus → us ≡ map vouched_one (take i hdus) ++ drop i hdus → hdu ≡ get_or us i hdu → IsSeen hdu
+seen_ahead hdus us i hdu seen within is there = subst (λ (one : HduState). IsSeen one) (sym (as_ahead hdus us i hdu within is there)) (seen i hdu within)
+
+-- and no longer than its file
+pub small_ahead : (hdus us : List HduState) (i : ℕ) (hdu : HduState) → length (joined_hdus (hdus_of hdus)) ≤ FILE_LIMIT → i < length hdus → us ≡ map vouched_one (take i hdus) ++ drop i hdus → hdu ≡ get_or us i hdu → length (hdu_bytes (parts_of hdu)) ≤ 2 ^ 34
+small_ahead hdus us i hdu small within is there =
+    let read : hdu ≡ get_or hdus i hdu = as_ahead hdus us i hdu within is there in
     omega (arith, length-append (header_bytes hdu.header.header) hdu.plane.bytes, ends_within hdus i (length (joined_hdus (take i (hdus_of hdus)))) hdu within read refl, small)

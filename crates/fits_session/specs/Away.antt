@@ -1,5 +1,5 @@
 -- Data units that lie in a stored file: where they lie, and what loading one owes (own).
-use Rattle.std.specs.Prelude.{◌≡◌, ◌⊎◌, ℕ, ◌+◌, Bool, List, [], ◌∷◌, length, false, true, All, Some, IsOk}
+use Rattle.std.specs.Prelude.{◌≡◌, ◌⊎◌, ℕ, ◌+◌, Bool, List, [], ◌∷◌, length, false, true, All, Some, IsOk, IsSome}
 use Rattle.std.specs.List.{slice_get}
 use Rattle.fits_card.specs.Header.{header_bytes}
 use Rattle.fits_stream.specs.Agree.{IsOf}
@@ -8,24 +8,19 @@ use Rattle.fits_stream.specs.Stream.{SinkState, Prints}
 use Rattle.fits_pixels.specs.Layout.{block_count}
 use Rattle.fits_unit.specs.DataUnit.{LiesIn}
 use Rattle.fits_passing.specs.Hdu.{HduParts, hdu_bytes}
-use Rattle.fits_passing.specs.HduReading.{passed_parts, IsPassedWhole}
-use Rattle.fits_hdu.specs.State.{HduState, parts_of}
-use Rattle.fits_hdu.specs.Work.{IsKnownAt, IsLoaded, Loads, PixelWork, WritesHdu}
-use Rattle.fits_passing.specs.declared.passed_hdu.PassedHdu.{PassedHdu}
+use Rattle.fits_hdu.specs.State.{HduState, parts_of, IsSeen}
+use Rattle.fits_hdu.specs.Work.{IsLoaded, IsOpenedAt, Loads, PixelWork, WritesHdu}
 use Rattle.fits_session.specs.Edit.{changed_of, hdu_of}
-use Rattle.fits_passing.specs.File.{FileParts}
-use Rattle.fits_making.specs.HduEdit.{needs_pixels}
-use Rattle.fits_passing.specs.Opening.{HasOpenFault}
+use Rattle.fits_sum.specs.Words.{word_total}
+use Rattle.fits_passing.specs.File.{file_bytes, joined_hdus, FileParts}
+use Rattle.fits_making.specs.HduEdit.{needs_data}
 use Rattle.fits_session.specs.Query.{array_in, kind_in}
 use Rattle.fits_making.specs.Making.{Holding, IsHad}
-use Rattle.fits_session.specs.Session.{SessionState}
+use Rattle.fits_session.specs.Session.{file_of, hdus_of, SessionState}
 use Rattle.fits_edit.specs.declared.edit.Edit.{Edit}
 use Rattle.fits_edit.specs.declared.edit.Edit.TheVariants.{Hdu}
 use Rattle.fits_edit.specs.declared.hdu_edit.HduEdit.{HduEdit}
-use Rattle.fits_edit.specs.declared.hdu_edit.HduEdit.TheVariants.{Pixels, Reshape}
-use Rattle.fits_passing.specs.declared.open_fault.OpenFault.TheVariants.{Memory}
-use Rattle.fits_passing.specs.declared.read_file_fault.ReadFileFault.TheVariants.{Open, Failed}
-use Rattle.fits_passing.specs.declared.read_file_fault.ReadFileFault.{ReadFileFault}
+use Rattle.fits_edit.specs.declared.hdu_edit.HduEdit.TheVariants.{Keep, Pixels, Reshape, Stamp}
 
 -- data units may lie in a file of these bytes
 abbrev pub in_file : List ℕ → Holding
@@ -35,49 +30,44 @@ in_file bytes = record { whole = false; told = Some bytes }
 abbrev pub AllLie : List ℕ → List HduState → Type 0
 AllLie bytes hdus = All (IsHad (in_file bytes)) hdus
 
--- in whatever file those of some HDUs lay, those of others lie
-abbrev pub LieStill : List HduState → List HduState → Type 0
-LieStill old new = (bytes : List ℕ) → AllLie bytes old → AllLie bytes new
+-- in whatever file those of some HDUs lay, those of others lie; where all were known, all are
+pub record LieStill (old new : List HduState) : Type 0 where
+  pub lie : (told : List ℕ) → AllLie told old → AllLie told new
+  pub seen : All IsSeen old → All IsSeen new
 
--- where data units lie in a file its reads agree: some bytes may have given them all, in which the data unit of this one lies
-abbrev pub AgreeOn : Bool → ReadLogState → HduState → Type 0
-AgreeOn whole log one = whole ≡ false → (bytes : List ℕ) × (IsOf bytes log × LiesIn bytes one.plane one.absent)
+-- these bytes may have given all the reads of a file, and the data unit of this HDU lies in them; where all are in memory any are
+abbrev pub IsToldOn : Bool → List ℕ → ReadLogState → HduState → Type 0
+IsToldOn whole told log one = whole ≡ false → IsOf told log × LiesIn told one.plane one.absent
 
--- the same of those of all of these
-pub record Agree (whole : Bool) (log : ReadLogState) (hdus : List HduState) : Type 0 where
-  pub given : whole ≡ false → (bytes : List ℕ) × (IsOf bytes log × AllLie bytes hdus)
-
--- the parts of an HDU that passed by
-abbrev pub parts_passed : PassedHdu → HduParts
-parts_passed it = passed_parts it.header.header it.unit
-
--- of an HDU that passed by this is known
-abbrev pub is_passed : PassedHdu → HduParts → Type 0
-is_passed it hdu = IsPassedWhole it.header it.unit hdu
+-- the same of all of these
+abbrev pub IsTold : Bool → List ℕ → ReadLogState → List HduState → Type 0
+IsTold whole told log hdus = whole ≡ false → IsOf told log × AllLie told hdus
 
 -- HDUs follow one another from a place of a file on, and the data unit of each lies in it
-abbrev pub AreKnownFrom : ℕ → List HduState → Type 0
-AreKnownFrom start [] = Unit {0}
-AreKnownFrom start (one ∷ hdus) =
-    IsKnownAt (start + length (header_bytes one.header.header)) one × AreKnownFrom (start + length (hdu_bytes (parts_of one))) hdus
+abbrev pub AreOpenedFrom : ℕ → List HduState → Type 0
+AreOpenedFrom start [] = Unit {0}
+AreOpenedFrom start (one ∷ hdus) =
+    IsOpenedAt (start + length (header_bytes one.header.header)) one × AreOpenedFrom (start + length (hdu_bytes (parts_of one))) hdus
 
--- an edit of HDU h wants its pixels: one of pixels where it is an image of integers, a reshape where it is an array of them; where it
--- isn't, or isn't there, they are refused whatever its data are
-abbrev pub HduWantsPixels : FileParts → ℕ → HduEdit → Type 0
-HduWantsPixels file h (Pixels lo hi paint) = IsOk (kind_in file h)
-HduWantsPixels file h (Reshape kind axes) = IsOk (array_in file h)
-HduWantsPixels file h edit = ⊥
+-- an edit of HDU h wants its data: one of pixels where it is an image of integers, a reshape where it is an array of them, a stamp where it
+-- is there; where it isn't, they are refused whatever its data are
+abbrev pub HduWantsData : FileParts → ℕ → HduEdit → Type 0
+HduWantsData file h (Pixels lo hi paint) = IsOk (kind_in file h)
+HduWantsData file h (Reshape kind axes) = IsOk (array_in file h)
+HduWantsData file h Stamp = IsSome (hdu_of file h)
+HduWantsData file h Keep = IsSome (hdu_of file h)
+HduWantsData file h edit = ⊥
 
 -- so an edit of a file wants some
-abbrev pub EditWantsPixels : FileParts → Edit → Type 0
-EditWantsPixels file (Hdu h edit) = HduWantsPixels file h edit
-EditWantsPixels file edit = ⊥
+abbrev pub EditWantsData : FileParts → Edit → Type 0
+EditWantsData file (Hdu h edit) = HduWantsData file h edit
+EditWantsData file edit = ⊥
 
--- so much work on its data unit loading HDU h is
+-- so much work on its data unit loading HDU h is, or knowing it
 abbrev pub LoadWork : FileParts → ℕ → PixelWork → PixelWork → Type 0
 LoadWork file h old new = (hdu : HduParts) → hdu_of file h ≡ Some hdu → IsLoaded (block_count hdu.data_unit) old new
 
--- HDU h was loaded, and nothing else changes
+-- HDU h was loaded, or is known, and nothing else changes
 pub record LoadsAlone (h : ℕ) (old new : SessionState) : Type 0 where
   pub now : HduState
   pub is : new ≡ record old { hdus = changed_of h (λ one. now) old.hdus }
@@ -87,16 +77,30 @@ pub record LoadsAlone (h : ℕ) (old new : SessionState) : Type 0 where
 abbrev pub LoadsAt : ℕ → SessionState → SessionState → Type 0
 LoadsAt h old new = (new ≡ old) ⊎ LoadsAlone h old new
 
--- so it was where an edit of it needs pixels; else nothing changes
+-- so it was where an edit of it needs data; else nothing changes
 abbrev pub LoadsFor : Edit → SessionState → SessionState → Type 0
-LoadsFor (Hdu h edit) old new = (new ≡ old) ⊎ ((needs_pixels edit ≡ true) × LoadsAlone h old new)
+LoadsFor (Hdu h edit) old new = (new ≡ old) ⊎ ((needs_data edit ≡ true) × LoadsAlone h old new)
 LoadsFor edit old new = new ≡ old
 
--- why a stored file isn't opened: its reads before and after
-abbrev pub StoredStops : ReadLogState → ReadLogState → ReadFileFault → Type 0
-StoredStops old new (Open Memory) = new.failures ≡ old.failures
-StoredStops old new (Open fault) = ((bytes : List ℕ) → IsOf bytes new → HasOpenFault bytes fault) × (new.failures ≡ old.failures)
-StoredStops old new Failed = new.failures ≡ old.failures + 1
+-- each HDU was loaded, or is known, or stays, and nothing else changes
+abbrev pub LoadEach : List HduState → List HduState → Type 0
+LoadEach [] [] = Unit {0}
+LoadEach [] (now ∷ new) = ⊥
+LoadEach (one ∷ old) [] = ⊥
+LoadEach (one ∷ old) (now ∷ new) = Loads one now × LoadEach old new
+
+-- so it was in a session
+pub record LoadsAll (old new : SessionState) : Type 0 where
+  pub tail : new.tail ≡ old.tail
+  pub each : LoadEach old.hdus new.hdus
+
+-- bytes have the total of HDUs whose data units are all known
+abbrev pub HdusHaveTotal : List HduState → List ℕ → Type 0
+HdusHaveTotal hdus bytes = All IsSeen hdus → word_total bytes ≡ word_total (joined_hdus (hdus_of hdus))
+
+-- the same of a file
+abbrev pub FileHasTotal : SessionState → List ℕ → Type 0
+FileHasTotal session bytes = All IsSeen session.hdus → word_total bytes ≡ word_total (file_bytes (file_of session))
 
 -- HDUs were written, one after another
 abbrev pub WritesHdus : List HduState → ReadLogState → ReadLogState → SinkState → SinkState → Type 0

@@ -3,14 +3,15 @@ use Rattle.std.specs.Prelude.{◌≡◌, ◌⊎◌, ℕ, Bool, false, Option, �
 use Rattle.std.specs.List.{insert, remove, slice_get}
 use Rattle.fits_pixels.specs.Layout.{block_count}
 use Rattle.fits_passing.specs.Hdu.{HduParts}
-use Rattle.fits_hdu.specs.State.{HduState, parts_of, IsDescribed}
-pub use Rattle.fits_hdu.specs.State.{HasPixels, HasStats}
+use Rattle.fits_unit.specs.DataUnit.{Absence}
+use Rattle.fits_hdu.specs.State.{HduState, hdu_at, parts_of, IsDescribed}
+pub use Rattle.fits_hdu.specs.State.{HasPixels, HasStats, IsSeen}
 use Rattle.fits_passing.specs.declared.called.ExtensionName.{ExtensionName}
 use Rattle.fits_passing.specs.Work.{open_reads}
 use Rattle.fits_hdu.specs.Work.{plane_work, IsMade, PixelWork}
 use Rattle.fits_session.specs.Edit.{changed_of, hdu_of}
 use Rattle.fits_passing.specs.File.{is_primary_hdu, file_bytes, FileParts, IsFile}
-use Rattle.fits_making.specs.HduEdit.{needs_pixels}
+use Rattle.fits_making.specs.HduEdit.{needs_data}
 use Rattle.fits_making.specs.Keeping.{IsSound}
 use Rattle.fits_making.specs.Columns.{keeping_reads, LacksChange}
 use Rattle.fits_session.specs.Marked.{is_stamped_after, marked_after, marked_refusal, Marked}
@@ -30,6 +31,20 @@ use Rattle.fits_making.specs.Making.{Holding, IsHad, HduWork, unread, IsReadyTo}
 pub record SessionState : Type 0 where
   pub hdus : List HduState
   pub tail : List ℕ
+
+-- the session over a file of these bytes, in which those data units lie that aren't in memory
+abbrev pub session_at : List ℕ → SessionState → SessionState
+session_at told session = record session { hdus = map (hdu_at told) session.hdus }
+
+-- where the data unit of each lies, if it isn't in memory
+abbrev pub absences_of : List HduState → List (Option Absence)
+absences_of hdus = map (λ (one : HduState). one.absent) hdus
+
+-- the same after an edit: they go with their HDUs, and a new image is in memory
+abbrev pub absences_after : Edit → List (Option Absence) → List (Option Absence)
+absences_after (Hdu h edit) absences = absences
+absences_after (NewImage at kind axes) absences = insert absences (at - 1) None
+absences_after (RemoveHdu h) absences = remove absences (h - 1)
 
 -- the parts of each HDU
 abbrev pub hdus_of : List HduState → List HduParts
@@ -144,12 +159,15 @@ pub record EditsTo {X : Type 0} (edit : Edit) (old new : SessionState) (result :
   pub work : WorksAs edit old new
   pub idle : OnErr result (AreIdle edit (works_of old.hdus) (works_of new.hdus))
   pub room : OnErr result (rooms_of new.hdus ≡ rooms_of old.hdus)
+  pub absences : OnOk result (absences_of new.hdus ≡ absences_after edit (absences_of old.hdus))
+  pub away : OnErr result (absences_of new.hdus ≡ absences_of old.hdus)
 
 -- a query of HDU h owes: the file stays, and so many of that HDU's cards are read at most
 pub record Asks (h most : ℕ) (old new : SessionState) : Type 0 where
   pub file : marked_of new ≡ marked_of old
   pub work : ReadsOnly h most (reads_of old.hdus) (reads_of new.hdus)
   pub pixel_work : works_of new.hdus ≡ works_of old.hdus
+  pub absences : absences_of new.hdus ≡ absences_of old.hdus
 
 -- so many pixels of an HDU were read more
 abbrev pub read_more : ℕ → PixelWork → PixelWork
@@ -160,6 +178,7 @@ pub record AsksPixels (h count : ℕ) (old new : SessionState) : Type 0 where
   pub file : marked_of new ≡ marked_of old
   pub work : reads_of new.hdus ≡ reads_of old.hdus
   pub pixel_work : works_of new.hdus ≡ changed_of h (read_more count) (works_of old.hdus)
+  pub absences : absences_of new.hdus ≡ absences_of old.hdus
 
 -- the HDUs and the tail are those of a file of so many bytes; the cards of each describe the shape that is kept; in those that are kept
 -- stamped the sums vouch for them; a table of names stands for them, with room for a name of each and one more; their data units are had so
@@ -192,12 +211,12 @@ IsSoOf Is h hdus = (i : ℕ) (one : HduState) → IsIndexOf (length hdus) h i �
 abbrev pub IsHeld : HduState → Type 0
 IsHeld one = one.absent ≡ None
 
--- an edit needs pixels
-abbrev pub NeedsPixels : Edit → Type 0
-NeedsPixels (Hdu h edit) = needs_pixels edit ≡ true
-NeedsPixels edit = ⊥
+-- an edit needs data of an HDU
+abbrev pub NeedsData : Edit → Type 0
+NeedsData (Hdu h edit) = needs_data edit ≡ true
+NeedsData edit = ⊥
 
--- those that it wants of its HDU are in memory
+-- those that it wants of its HDU are in memory, or known
 abbrev pub IsReadyFor : Edit → List HduState → Type 0
 IsReadyFor (Hdu h edit) hdus = IsSoOf (IsReadyTo edit) h hdus
 IsReadyFor edit hdus = Unit {0}
@@ -232,3 +251,4 @@ pub record LooksAt (edit : Edit) (old new : SessionState) : Type 0 where
   pub rooms : rooms_of new.hdus ≡ rooms_of old.hdus
   pub reads : LookReads edit old new
   pub ready : IsReadyFor edit old.hdus → IsReadyFor edit new.hdus
+  pub absences : absences_of new.hdus ≡ absences_of old.hdus

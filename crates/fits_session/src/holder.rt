@@ -1,10 +1,11 @@
 ghost use Rattle.std.specs.Prelude.{◌≡◌, ◌+◌, ℕ, List, None, Bool, true, false, length, IfErr, IsOk, OnErr, OnOk};
-ghost use Rattle.fits_unit.specs.Again.{copied_blocks, CopyCounts, CopyFails, CopyWrites, Follows, LoadCounts, Looks, PrintsLike};
-ghost use Rattle.fits_session.specs.Away.{AgreeOn};
+ghost use Rattle.fits_unit.specs.Again.{copied_blocks, CopyCounts, CopyFails, CopyWrites, Follows, LoadCounts, Looks, PrintsAs};
+ghost use Rattle.fits_unit.specs.DataUnit.{IsCounted};
+ghost use Rattle.fits_session.specs.Away.{IsToldOn};
 ghost use Rattle.fits_stream.specs.Stream.{Prints};
 ghost use Rattle.fits_passing.specs.Hdu.{hdu_bytes};
-ghost use Rattle.fits_hdu.specs.State.{parts_of, ReadsUpTo};
-ghost use Rattle.fits_hdu.specs.Work.{Loads, WritesHdu};
+ghost use Rattle.fits_hdu.specs.State.{hdu_at, parts_of, IsSeen, ReadsUpTo};
+ghost use Rattle.fits_hdu.specs.Work.{HasHduTotal, Loads, WritesHdu};
 ghost use Rattle.fits_making.specs.Making.{IsHad};
 
 use fits_hdu::Hdu;
@@ -18,21 +19,44 @@ pub trait Holder {
     /// Whether all of them are in memory.
     ghost whole: { Bool };
 
-    /// Has the data unit of an HDU in memory: it is read again, where it lies in the file.
+    /// Has the data unit of an HDU known: where it is unread its bytes pass by, as it lies in the file.
+    fn know(&mut self, hdu: &mut Hdu, log: &mut ReadLog) -> Result<(), LoadFault>
+        requires { IsHad (record { whole = whole; told = None }) hdu.old }
+        ensures known { OnOk result (IsSeen hdu.new) }
+        ensures fresh { (IsSeen hdu.old → ⊥)
+            → OnOk result (IsCounted hdu.new.plane hdu.new.absent) }
+        ensures had { IsHad (record { whole = whole; told = None }) hdu.new }
+        ensures same { (told : List ℕ) → IsToldOn whole told log.new hdu.old
+            → OnOk result (parts_of (hdu_at told hdu.new) ≡ parts_of (hdu_at told hdu.old)) }
+        ensures lies { (told : List ℕ) → IsToldOn whole told log.new hdu.old
+            → IsToldOn whole told log.new hdu.new }
+        ensures loads { Loads hdu.old hdu.new }
+        ensures idle { IsSeen hdu.old → hdu.new ≡ hdu.old }
+        ensures at_once { IsSeen hdu.old → IsOk result }
+        ensures quiet { OnOk result (log.new.failures ≡ log.old.failures) }
+        ensures err { OnErr result (hdu.new ≡ hdu.old) }
+        ensures counted { IfErr result (LoadCounts log.old.failures log.new.failures) }
+        ensures unchanged { (told : List ℕ) → IsToldOn whole told log.new hdu.old
+            → IfErr result (λ why. why ≡ LoadFault.Changed → ⊥) }
+        ensures follows { Follows log.old log.new };
+
+    /// Has the data unit of an HDU in memory: it is read, where it lies in the file.
     fn load(&mut self, alloc: Global, hdu: &mut Hdu, log: &mut ReadLog) -> Result<(), LoadFault>
         requires { IsHad (record { whole = whole; told = None }) hdu.old }
         ensures held { OnOk result (hdu.new.absent ≡ None) }
-        ensures same { AgreeOn whole log.new hdu.old → OnOk result (parts_of hdu.new ≡ parts_of hdu.old) }
+        ensures same { (told : List ℕ) → IsToldOn whole told log.new hdu.old
+            → OnOk result (parts_of hdu.new ≡ parts_of (hdu_at told hdu.old)) }
         ensures loads { Loads hdu.old hdu.new }
         ensures idle { hdu.old.absent ≡ None → hdu.new ≡ hdu.old }
         ensures at_once { hdu.old.absent ≡ None → IsOk result }
         ensures quiet { OnOk result (log.new.failures ≡ log.old.failures) }
         ensures err { OnErr result (hdu.new ≡ hdu.old) }
         ensures counted { IfErr result (LoadCounts log.old.failures log.new.failures) }
-        ensures unchanged { AgreeOn whole log.new hdu.old → IfErr result (λ why. why ≡ LoadFault.Changed → ⊥) }
+        ensures unchanged { (told : List ℕ) → IsToldOn whole told log.new hdu.old
+            → IfErr result (λ why. why ≡ LoadFault.Changed → ⊥) }
         ensures follows { Follows log.old log.new };
 
-    /// Writes an HDU: its data unit is read again, where it lies in the file. It takes no memory.
+    /// Writes an HDU: its data unit is read, where it lies in the file. It takes no memory.
     fn emit<W: Sink>(
         &mut self,
         hdu: &mut Hdu,
@@ -40,13 +64,15 @@ pub trait Holder {
         sink: &mut W,
     ) -> Result<(), CopyFault>
         requires { IsHad (record { whole = whole; told = None }) hdu.old }
-        ensures ok { AgreeOn whole log.new hdu.old → OnOk result (Prints (hdu_bytes (parts_of hdu.old))
+        ensures ok { (told : List ℕ) → IsToldOn whole told log.new hdu.old
+            → OnOk result (Prints (hdu_bytes (parts_of (hdu_at told hdu.old)))
             (W.state sink.old) (W.state sink.new)) }
-        ensures like { OnOk result (PrintsLike (hdu_bytes (parts_of hdu.old))
-            (W.state sink.old) (W.state sink.new)) }
+        ensures like { OnOk result (PrintsAs (HasHduTotal hdu.old)
+            (length (hdu_bytes (parts_of hdu.old))) (W.state sink.old) (W.state sink.new)) }
         ensures copied { OnOk result (WritesHdu hdu.old log.old log.new
             (W.state sink.old) (W.state sink.new)) }
-        ensures err { AgreeOn whole log.new hdu.old → IfErr result (CopyFails (hdu_bytes (parts_of hdu.old))
+        ensures err { (told : List ℕ) → IsToldOn whole told log.new hdu.old
+            → IfErr result (CopyFails (hdu_bytes (parts_of (hdu_at told hdu.old)))
             (W.state sink.old) (W.state sink.new)) }
         ensures written { whole ≡ true → IfErr result (λ why. why ≡ CopyFault.Write) }
         ensures quiet { OnOk result (log.new.failures ≡ log.old.failures) }
@@ -65,6 +91,10 @@ pub struct InMemory;
 
 impl Holder for InMemory {
     ghost whole = { true };
+
+    fn know(&mut self, _hdu: &mut Hdu, _log: &mut ReadLog) -> Result<(), LoadFault> {
+        Ok(())
+    }
 
     fn load(
         &mut self,
@@ -125,6 +155,10 @@ impl<'f, F: Stored> InFile<'f, F> {
 
 impl<'f, F: Stored> Holder for InFile<'f, F> {
     ghost whole = { false };
+
+    fn know(&mut self, hdu: &mut Hdu, log: &mut ReadLog) -> Result<(), LoadFault> {
+        hdu.know(self.file, log, self.room.as_mut_slice())
+    }
 
     fn load(&mut self, alloc: Global, hdu: &mut Hdu, log: &mut ReadLog) -> Result<(), LoadFault> {
         hdu.load(alloc, self.file, log, self.room.as_mut_slice())

@@ -142,13 +142,14 @@ impl Session {
 }
 
 impl<H: Holder + Drop> Session<H> {
-    ghost use Rattle.std.specs.Prelude.{◌≡◌, ℕ, List, length, None, All, IfOk};
+    ghost use Rattle.std.specs.Prelude.{◌≡◌, ℕ, List, true, length, None, All, IfOk};
     ghost use Rattle.fits_session.specs.Away.{AllLie, LieStill};
     ghost use Rattle.fits_passing.specs.Work.{name_reads};
+    ghost use Rattle.fits_hdu.specs.State.{IsDescribed};
     ghost use Rattle.fits_hdu.specs.Work.{IsOpened};
     ghost use Rattle.fits_passing.specs.File.{file_bytes, IsFile};
     ghost use Rattle.fits_session.specs.Marked.{unmarked};
-    ghost use Rattle.fits_session.specs.Session.{file_of, marked_of, state_of, EditsTo, IsReadyFor};
+    ghost use Rattle.fits_session.specs.Session.{file_of, marked_of, session_at, state_of, EditsTo, IsHeld, IsReadyFor, IsSeen};
     ghost use Rattle.fits_making.specs.Making.{IsHad};
 
     // The session of the HDUs of a file, how many bytes it has, and the bytes after the last HDU.
@@ -169,8 +170,11 @@ impl<H: Holder + Drop> Session<H> {
         ensures unmarked { IfOk result (λ session. marked_of session
             ≡ unmarked (file_of session)) }
         ensures opened { IfOk result (λ session. All (IsOpened name_reads) session.hdus) }
-        ensures lie { (bytes : List ℕ) → AllLie bytes parts.0.items
-            → IfOk result (λ session. AllLie bytes session.hdus) }
+        ensures at { (told : List ℕ) → IfOk result (λ session. file_of (session_at told session)
+            ≡ file_of (session_at told (state_of parts.0.items parts.2.items))) }
+        ensures lie { (told : List ℕ) → AllLie told parts.0.items
+            → IfOk result (λ session. AllLie told session.hdus) }
+        ensures seen { All IsSeen parts.0.items → IfOk result (λ session. All IsSeen session.hdus) }
     {
         let (mut hdus, len, tail) = parts;
         let names = name_all(alloc, &mut hdus)?;
@@ -196,6 +200,16 @@ impl<H: Holder + Drop> Session<H> {
             Edit::NewImage { at, kind, axes } => self.put_image(*at, *kind, axes),
             Edit::RemoveHdu { hdu } => self.take_out(*hdu),
         }
+    }
+
+    /// That its HDUs are those of a file, that the cards of each describe the shape that is kept of
+    /// them, and that all data units are in memory where they are had so.
+    pub fn is_sound(&self)
+        ensures whole { IsFile (file_of self.now) }
+        ensures described { All IsDescribed self.now.hdus }
+        ensures held { H.whole ≡ true → All IsHeld self.now.hdus }
+    {
+        let _hdus = self.hdus.len();
     }
 }
 

@@ -11,7 +11,7 @@ use crate::rows::{
 use fits_fixtures::{Plan, SMOOTH, broken_bytes, holds, reader, same, stored_bytes, writer};
 use fits_hdu::{Hdu, HduFault, Stats, Verdicts};
 use fits_image::Kind;
-use fits_passing::PassedHdu;
+use fits_passing::{Look, PassedHdu};
 use fits_stream::{Intake, Reach, ReadLog, Source, Stored, StoredSource};
 use std::alloc::{AllocError, Global};
 use std::process::Abort;
@@ -20,7 +20,7 @@ use std::test::Fail;
 // The HDU that comes next in a source. Its data unit passes by, and lies at its place in a file.
 fn passed<S: Source>(alloc: Global, source: &mut S, primary: bool) -> Result<Hdu, Fail> {
     let mut intake = Intake::new(alloc, 1_000_000, Reach::Wanted)?;
-    match PassedHdu::read(alloc, &mut intake, source, primary) {
+    match PassedHdu::read(alloc, Look::All, &mut intake, source, primary) {
         Ok(known) => Ok(Hdu::away(alloc, known, DATA_AT as u64)?),
         Err(_) => Err(Fail::from("no HDU is read")),
     }

@@ -7,7 +7,7 @@ use fits_fixtures::{SMOOTH, broken_bytes, holds, same, stored_bytes, unit_of, wr
 use fits_pixels::{Layout, ValueSummary};
 use fits_plane::Plane;
 use fits_stream::{ReadLog, Source, Stored, StoredSource, fill};
-use fits_unit::{DataUnit, PassedUnit, PassingUnit};
+use fits_unit::{AwayUnit, DataUnit, PassedUnit, PassingUnit};
 use std::alloc::AllocError;
 use std::process::Abort;
 use std::test::Fail;
@@ -166,7 +166,7 @@ fn check_unit_away<R: Abort + AllocGlobal>(
 ) -> Result<(), Fail> {
     let stored = stored_bytes(file, file.len());
     let unit = passed_unit(rt, bytes, layout, 0);
-    let mut found = DataUnit::away(rt.alloc(), unit, UNIT_AT)?;
+    let mut found = DataUnit::away(rt.alloc(), AwayUnit::Passed(unit), UNIT_AT)?;
     holds!(rt; !found.is_held());
     check_unit(rt, &mut found, &stored, bytes, layout)?;
     let mut room = [0u8; 400];

@@ -9,10 +9,15 @@ use std::alloc::{AllocError, Global};
 use std::process::Abort;
 use std::test::Fail;
 
-/// Where the only pixel of the file lies, and how long the file is.
+/// Where the first pixel of each file lies.
 const PIXEL_AT: usize = 2 * 2880;
 
-const FILE_LEN: usize = 3 * 2880;
+/// An image that is longer than what is read of a file at once, and its blocks.
+const WIDE: &str =
+    "XTENSION= 'IMAGE   '|BITPIX  =                    8|NAXIS   =                    1|\
+    NAXIS1  =                66000|PCOUNT  =                    0|GCOUNT  =                    1|END";
+
+const WIDE_BLOCKS: usize = 23;
 
 /// What is saved of each file, whatever it was before.
 const TERMS: Terms = Terms {
@@ -40,7 +45,10 @@ enum Change {
 }
 
 /// A script, a change, what is answered, and whether that is the end of the run.
-const RUNS: &[(&str, Change, &str, bool)] = &[
+type Row = (&'static str, Change, &'static str, bool);
+
+/// Runs over an HDU of a pixel, which passes by as the file is opened.
+const RUNS: &[Row] = &[
     ("rect 2 1:1", Change::None, "0\n", false),
     ("rect 2 1:1", Change::Header, "0\n", false),
     ("rect 2 1:1", Change::Pixel, "", true),
@@ -52,6 +60,21 @@ const RUNS: &[(&str, Change, &str, bool)] = &[
     // All that is read again is in memory.
     ("fill 2 1:1 7", Change::None, "", false),
     ("rm 2", Change::Pixel, "", false),
+];
+
+/// Runs over one whose data are unread until a line asks for them: they are what they are by then.
+const UNREAD: &[Row] = &[
+    ("get 2 BITPIX", Change::Pixel, "integer 8\n", false),
+    ("rect 2 1:1", Change::Pixel, "1\n", false),
+    (
+        "sum 2\nrect 2 1:1",
+        Change::Pixel,
+        "datasum 16777216 verdicts 0 0\n1\n",
+        false,
+    ),
+    // The answer stands, and the copy doesn't.
+    ("get 2 BITPIX", Change::End, "integer 8\n", true),
+    ("sum 2", Change::End, "", true),
 ];
 
 fn written(stream: Watched<PlannedWriter>) -> Vec<u8> {
@@ -100,12 +123,23 @@ fn reads_at_opening(alloc: Global, bytes: &[u8]) -> Result<usize, AllocError> {
 
 #[test]
 fn a_file_is_what_its_reads_gave(rt: HostRuntime) -> Result<(), Fail> {
-    let bytes = zeroed_file_of(rt.alloc(), (&[(P0, 0), (PIXEL, 1)], ""))?;
-    same!(rt; bytes.len(), FILE_LEN);
-    let opening = reads_at_opening(rt.alloc(), &bytes)?;
-    for (script, change, answers, stops) in RUNS {
-        let then = changed(rt.alloc(), &bytes, *change)?;
-        let file = ChangingBytes::new(&bytes, &then, opening);
+    let small = zeroed_file_of(rt.alloc(), (&[(P0, 0), (PIXEL, 1)], ""))?;
+    check_rows(&rt, &small, RUNS)?;
+    let large = zeroed_file_of(rt.alloc(), (&[(P0, 0), (WIDE, WIDE_BLOCKS)], ""))?;
+    check_rows(&rt, &large, UNREAD)?;
+    Ok(())
+}
+
+// Whether each of these runs over a file of these bytes comes to what it is to.
+fn check_rows<R: Abort + AllocGlobal>(
+    rt: &R,
+    bytes: &[u8],
+    rows: &[Row],
+) -> Result<(), AllocError> {
+    let opening = reads_at_opening(rt.alloc(), bytes)?;
+    for (script, change, answers, stops) in rows {
+        let then = changed(rt.alloc(), bytes, *change)?;
+        let file = ChangingBytes::new(bytes, &then, opening);
         let mut lines = reader(script.as_bytes(), SMOOTH);
         let mut saved = writer(rt.alloc(), SMOOTH);
         let mut out = writer(rt.alloc(), SMOOTH);

@@ -1,5 +1,5 @@
 -- Bytes of a stored file that are read again.
-use Rattle.std.proofs.Common.{◌≡◌, ◌+◌, ◌<◌, ◌≤◌, ◌%◌, ◌/◌, ℕ, List, [], ◌++◌, length, min, take, drop, ap, sym, ◌∙◌, arith, subst, append_assoc, Option, Some}
+use Rattle.std.proofs.Common.{◌≡◌, ◌+◌, ◌<◌, ◌≤◌, ◌%◌, ◌/◌, ℕ, List, [], ◌++◌, length, min, take, drop, ap, sym, ◌∙◌, arith, subst, append_assoc, true, Option, Some}
 use Rattle.std.proofs.lemmas.List.{append-nil, length-append, length-drop, length-take, take-append-drop, take-take, take_all}
 use Rattle.std.proofs.Math.Seq.{take-append_seam}
 use Rattle.std.specs.List.{slice_get}
@@ -13,6 +13,7 @@ use Rattle.fits_stream.proofs.StreamLemmas.{PrintsFront-longer, Reads-more}
 use Rattle.fits_sum.specs.Words.{word_total}
 use Rattle.fits_sum.proofs.WordLemmas.{word_total-append}
 use Rattle.fits_unit.specs.Again.{CopyFails, CopyNextStops, CopyStops, Follows, LoadStops, NextShort, NextStops, ReadsFewer}
+use Rattle.fits_unit.specs.DataUnit.{Absence, Lies}
 use Rattle.fits_unit.specs.declared.again.CopyFault.{CopyFault}
 use Rattle.fits_unit.specs.declared.again.CopyFault.TheVariants.{Failed, Changed, Write}
 use Rattle.fits_unit.specs.declared.again.LoadFault.{LoadFault}
@@ -65,11 +66,6 @@ pub lent_reads : {F : Type 0} {k : ℕ} (a b : Lent F) (place : ℕ) (old new : 
 lent_reads a b place old new bytes at came ends is adds =
     subst (λ p. ReadsOn p old new bytes) at (reads_on a.log b.log old new bytes adds (sym came) (sym ends) (ap (λ (l : ReadLogState). l.came) is) (ap (λ (l : ReadLogState). l.ends) is))
 
--- and what its log gained, whatever that was
-pub again_some : {F : Type 0} {k : ℕ} (a b : Lent F) (place : ℕ) (old new : ReadLogState) → a.log.at ≡ place → a.log.came ≡ old.came → a.log.ends ≡ old.ends → new ≡ record { came = b.log.came; ends = b.log.ends; failures = b.failures; looked = k }
-    → Grows (Some (unskipped a.log)) (Some (unskipped b.log)) → ReadsSome place old new
-again_some a b place old new at came ends is grows = record { bytes = grows.bytes; read = lent_reads a b place old new grows.bytes at came ends is grows.logs }
-
 -- bytes of it weren't all copied
 pub copy_stops : {F : Type 0} {k : ℕ} (a b : Lent F) (x y : Option (List ℕ)) (n m place len : ℕ) (old new : ReadLogState) (s t : SinkState) (why : CopyFault) → a.log.at ≡ place → a.log.came ≡ old.came → a.log.ends ≡ old.ends → new ≡ record { came = b.log.came; ends = b.log.ends; failures = b.failures; looked = k }
     → CopyNextStops len (record { remaining = x; log = Some (unskipped a.log); failures = n }) (record { remaining = y; log = Some (unskipped b.log); failures = m }) s t why → CopyStops place len old new s t why
@@ -107,6 +103,28 @@ copy_fails xs unit place log log' old new Changed is lies p =
 copy_fails xs unit place log log' old new Write is lies p =
     let front = front_read xs unit p.bytes p.rest place log log' p.read is lies p.few in
     subst (λ t. PrintsFront t old new) (ap (λ t. t ++ drop (length p.bytes) unit) (sym front) ∙ take-append-drop (length p.bytes) unit) (PrintsFront-longer old new p.bytes (drop (length p.bytes) unit) p.ends)
+
+-- what lies at its place is as long as it
+pub there_long : (xs own : List ℕ) (it : Absence) → Lies xs own it → length (take (length own) (drop it.place xs)) ≡ length own
+there_long xs own it lies = omega (arith, lies.there, length-drop it.place xs, length-take (length own) (drop it.place xs))
+
+-- and all of what lies there
+there_whole : (xs own : List ℕ) (it : Absence) → Lies xs own it → take (length (take (length own) (drop it.place xs))) (drop it.place xs) ≡ take (length own) (drop it.place xs)
+there_whole xs own it lies = ap (λ n. take n (drop it.place xs)) (there_long xs own it lies)
+
+-- what was read from its place on is what lies there
+pub read_there : (xs own bytes : List ℕ) (it : Absence) (old new : ReadLogState) → ReadsOn it.place old new bytes → IsOf xs new → Lies xs own it → length bytes ≡ length own → bytes ≡ take (length own) (drop it.place xs)
+read_there xs own bytes it old new p is lies size =
+    unit_read xs (take (length own) (drop it.place xs)) bytes it.place old new p is (there_whole xs own it lies) (size ∙ sym (there_long xs own it lies))
+
+-- and where it is known, that is it
+pub read_known : (xs own bytes : List ℕ) (it : Absence) (old new : ReadLogState) → ReadsOn it.place old new bytes → IsOf xs new → Lies xs own it → length bytes ≡ length own → it.known ≡ true → bytes ≡ own
+read_known xs own bytes it old new p is lies size known = read_there xs own bytes it old new p is lies size ∙ lies.same known
+
+-- what lies there isn't copied whole for these reasons alone
+pub copy_fails_there : (xs own : List ℕ) (it : Absence) (log log' : ReadLogState) (old new : SinkState) (why : CopyFault) → IsOf xs log' → Lies xs own it → CopyStops it.place (length own) log log' old new why → CopyFails (take (length own) (drop it.place xs)) old new why
+copy_fails_there xs own it log log' old new why is lies p =
+    copy_fails xs (take (length own) (drop it.place xs)) it.place log log' old new why is (there_whole xs own it lies) (subst (λ n. CopyStops it.place n log log' old new why) (sym (there_long xs own it lies)) p)
 
 -- a log goes on, also where bytes weren't copied
 pub copy_follows : (place len : ℕ) (log log' : ReadLogState) (old new : SinkState) (why : CopyFault) → CopyStops place len log log' old new why → Follows log log'

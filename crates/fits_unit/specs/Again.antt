@@ -1,5 +1,5 @@
 -- Bytes of a stored file that are read again (own).
-use Rattle.std.specs.Prelude.{◌≡◌, ◌<◌, ◌≤◌, ℕ, ◌+◌, List, ◌++◌, length, take, Option, None, Some, MatchOption}
+use Rattle.std.specs.Prelude.{◌≡◌, ◌<◌, ◌≤◌, ℕ, ◌+◌, true, List, ◌++◌, length, take, Option, None, Some, MatchOption}
 use Rattle.fits_stream.specs.Agree.{EndsAt, IsOf, ReadsOn, ReadsShort, ReadsSome}
 use Rattle.fits_stream.specs.Log.{Grows, IsEnded, Logs}
 use Rattle.fits_stream.specs.Stored.{ReadLogState}
@@ -7,7 +7,7 @@ use Rattle.fits_stream.specs.Stream.{SinkState, SourceState, Prints, PrintsFront
 use Rattle.fits_sum.specs.Words.{word_total}
 use Rattle.fits_pixels.specs.Layout.{block_count}
 use Rattle.fits_plane.specs.Plane.{PlaneState}
-use Rattle.fits_unit.specs.DataUnit.{Absence}
+use Rattle.fits_unit.specs.DataUnit.{Absence, IsKnown}
 use Rattle.fits_unit.specs.declared.again.CopyFault.{CopyFault}
 use Rattle.fits_unit.specs.declared.again.CopyFault.TheVariants.{Failed, Changed, Write}
 use Rattle.fits_unit.specs.declared.again.LoadFault.{LoadFault}
@@ -117,22 +117,26 @@ CopyFails bytes old new Failed = (n : ℕ) × Prints (take n bytes) old new
 CopyFails bytes old new Changed = ⊥
 CopyFails bytes old new Write = PrintsFront bytes old new
 
--- bytes were written that are as many as these, and have the same total
-pub record PrintsLike (bytes : List ℕ) (old new : SinkState) : Type 0 where
+-- so many bytes were written, of which this is so
+pub record PrintsAs (Is : List ℕ → Type 0) (len : ℕ) (old new : SinkState) : Type 0 where
   pub like : List ℕ
-  pub size : length like ≡ length bytes
-  pub total : word_total like ≡ word_total bytes
+  pub size : length like ≡ len
+  pub is : Is like
   pub written : Prints like old new
 
--- these bytes were read from a place on, as many as a data unit has that lies there, with the same total
-pub record ReadsBack (place : ℕ) (unit : List ℕ) (log log' : ReadLogState) (bytes : List ℕ) : Type 0 where
-  pub read : ReadsOn place log log' bytes
+-- they have the total of a data unit that is known
+abbrev pub HasTotal : List ℕ → Option Absence → List ℕ → Type 0
+HasTotal unit absent bytes = IsKnown absent → word_total bytes ≡ word_total unit
+
+-- these bytes were read from a place on, as many as a data unit has that lies there, with the same total, where it is known
+pub record ReadsBack (unit : List ℕ) (it : Absence) (log log' : ReadLogState) (bytes : List ℕ) : Type 0 where
+  pub read : ReadsOn it.place log log' bytes
   pub size : length bytes ≡ length unit
-  pub total : word_total bytes ≡ word_total unit
+  pub total : it.known ≡ true → word_total bytes ≡ word_total unit
 
 -- these are the bytes of a data unit: those in memory, or such as the reads from its place on gave
 abbrev pub IsUnitRead : List ℕ → Option Absence → ReadLogState → ReadLogState → List ℕ → Type 0
-IsUnitRead unit absent log log' bytes = MatchOption absent (bytes ≡ unit) (λ it. ReadsBack it.place unit log log' bytes)
+IsUnitRead unit absent log log' bytes = MatchOption absent (bytes ≡ unit) (λ it. ReadsBack unit it log log' bytes)
 
 -- how many blocks are looked at as a data unit is written: those of one that isn't in memory
 abbrev pub copied_blocks : List ℕ → Option Absence → ℕ

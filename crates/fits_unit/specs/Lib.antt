@@ -1,3 +1,4 @@
 pub mod Again
 pub mod DataUnit
 pub mod Passing
+pub mod Unread

@@ -40,7 +40,7 @@ pub record PassedState : Type 0 where
 
 -- this is known of it: the statistics of its pixels but for those that had this number, the total of its words, whether its fill is what
 -- it should be, and how many bytes it has; each of its blocks was scanned once
-pub record IsKnown (bytes : List ℕ) (layout : Layout) (blank : Option ℤ) (stored : PixelSummary) (total : ℕ) (filled : Bool) (len scans : ℕ) : Type 0 where
+pub record KnowsOf (bytes : List ℕ) (layout : Layout) (blank : Option ℤ) (stored : PixelSummary) (total : ℕ) (filled : Bool) (len scans : ℕ) : Type 0 where
   pub fits : IsLayout layout bytes
   pub small : (k : ℕ) → slice_index bytes k < 256
   pub stored_are : stored ≡ statistics blank (pixels layout.width bytes 0 layout.pixels)

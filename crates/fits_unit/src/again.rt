@@ -3,9 +3,13 @@ ghost use Rattle.std.specs.Prelude.{◌≡◌, ◌<◌, ◌≤◌, ◌+◌, ◌*
 ghost use Rattle.fits_sum.specs.Words.{word_total};
 ghost use Rattle.fits_stream.specs.Agree.{ReadsOn};
 ghost use Rattle.fits_stream.specs.Stream.{Reads};
+ghost use Rattle.fits_unit.specs.Unread.{LaysOut};
 ghost use Rattle.fits_unit.specs.Again.{Copies, CopiesNext, CopyCounts, CopyNextStops, CopyStops, LoadCounts, LoadNextStops, LoadStops, Looks};
 
+use crate::passed_unit::PassedUnit;
+use crate::passing_unit::PassingUnit;
 use fits_card::BLOCK_LEN;
+use fits_pixels::Layout;
 use fits_stream::{Count, ReadLog, Sink, Source, Stored, StoredSource, fill, write_all};
 use fits_sum::words_total;
 use std::alloc::Global;
@@ -90,6 +94,70 @@ fn read_next<R: Source>(
         };
     }
     Ok(bytes)
+}
+
+/// So many bytes of a file from a place on, which are a data unit that is read so, pass by through a
+/// room of one block at least.
+pub(crate) fn pass_again<F: Stored>(
+    file: &F,
+    log: &mut ReadLog,
+    place: u64,
+    len: usize,
+    layout: Layout,
+    room: &mut [u8],
+) -> Result<PassedUnit, LoadFault>
+    requires wide { 2880 ≤ length room.old }
+    requires fits { LaysOut layout len }
+    ensures are { IfOk result (λ unit. ReadsOn place log.old log.new unit.bytes) }
+    ensures len { IfOk result (λ unit. length unit.bytes ≡ len) }
+    ensures layout { IfOk result (λ unit. unit.layout ≡ layout) }
+    ensures blank { IfOk result (λ unit. unit.blank ≡ layout.blank) }
+    ensures size { length room.new ≡ length room.old }
+    ensures quiet { OnOk result (log.new.failures ≡ log.old.failures) }
+    ensures err { IfErr result (LoadStops place len log.old log.new) }
+    ensures counted { IfErr result (LoadCounts log.old.failures log.new.failures) }
+    ensures looked { log.new.looked ≡ log.old.looked }
+{
+    let mut source = StoredSource::new(file, place, log.take_reads());
+    let passed = pass_next(&mut source, len, layout, room);
+    log.put_reads(source.into_log());
+    passed
+}
+
+// So do the next bytes of a source.
+fn pass_next<R: Source>(
+    source: &mut R,
+    len: usize,
+    layout: Layout,
+    room: &mut [u8],
+) -> Result<PassedUnit, LoadFault>
+    requires wide { 2880 ≤ length room.old }
+    requires fits { LaysOut layout len }
+    ensures are { IfOk result (λ unit. Reads unit.bytes
+        (R.state source.old) (R.state source.new)) }
+    ensures len { IfOk result (λ unit. length unit.bytes ≡ len) }
+    ensures layout { IfOk result (λ unit. unit.layout ≡ layout) }
+    ensures blank { IfOk result (λ unit. unit.blank ≡ layout.blank) }
+    ensures size { length room.new ≡ length room.old }
+    ensures quiet { OnOk result ((R.state source.new).failures ≡ (R.state source.old).failures) }
+    ensures err { IfErr result (LoadNextStops len (R.state source.old) (R.state source.new)) }
+    ensures counted { IfErr result
+        (LoadCounts (R.state source.old).failures (R.state source.new).failures) }
+{
+    let wide = room.len() / BLOCK_LEN * BLOCK_LEN;
+    let mut unit = PassingUnit::new(layout);
+    while unit.byte_len() < len {
+        let most = wide.min(len - unit.byte_len());
+        let (piece, _) = room.split_at_mut(most);
+        let Ok(n) = fill(source, piece, most) else {
+            return Err(LoadFault::Failed);
+        };
+        if n < most {
+            return Err(LoadFault::Changed);
+        }
+        unit.add(piece);
+    }
+    Ok(unit.end())
 }
 
 /// Copies so many bytes of a file from a place on, in whole blocks, through a room of one block at

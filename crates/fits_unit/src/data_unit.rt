@@ -1,22 +1,23 @@
-ghost use Rattle.std.specs.Prelude.{◌≡◌, ◌≤◌, ◌<◌, ◌^◌, ℕ, List, drop, length, take, IfErr, IfOk, OnOk};
+ghost use Rattle.std.specs.Prelude.{◌≡◌, ◌≤◌, ◌<◌, ◌+◌, ◌^◌, true, false, ℕ, List, Some, length, IfErr, IfOk, IsOk, IsTrue, OnErr, OnOk};
 ghost use Rattle.fits_stream.specs.Agree.{IsOf, ReadsOn};
 ghost use Rattle.fits_sum.specs.Words.{word_total};
 ghost use Rattle.fits_pixels.specs.Layout.{block_count};
 ghost use Rattle.fits_unit.specs.Again.{Follows, LoadCounts};
+ghost use Rattle.fits_unit.specs.DataUnit.{absence_of, away_plane, is_passed, passed_blank, unit_at, LiesIn};
 
 use crate::absent::Absent;
-use crate::again::{CopyFault, LoadFault, copy_again, read_again};
-use crate::passed_unit::PassedUnit;
+use crate::again::{CopyFault, LoadFault, copy_again, pass_again, read_again};
+use crate::away_unit::AwayUnit;
 use fits_pixels::{Layout, ValueSummary};
 use fits_plane::{Painting, Plane, PlaneRoom};
 use fits_stream::{ReadLog, Sink, Stored};
 use std::alloc::{AllocError, Global};
 use std::marker::Model;
 
-/// A data unit: in memory, or known by what was found as its bytes passed by.
+/// A data unit: in memory, or known by what was found as its bytes passed by, or unread so far.
 ///
 /// Contracts see its bytes all the same, how they are read, the work on them so far, and where it
-/// lies, if it isn't in memory.
+/// lies, if it isn't in memory. Of one that is unread they see zeros.
 #[derive(Drop)]
 pub struct DataUnit {
     // Of a unit that isn't in memory it has no bytes, and the work so far.
@@ -48,8 +49,8 @@ impl DataUnit {
     ghost use Rattle.fits_plane.specs.Converting.{can_store_run, kept_numbers, run_made};
     ghost use Rattle.fits_plane.specs.Painting.{Paints, Suits};
     ghost use Rattle.fits_plane.specs.Rectangle.{IsRectangle, product, rectangle_size, rectangle_values};
-    ghost use Rattle.fits_unit.specs.Again.{copied_blocks, CopiesUnit, CopyCounts, CopyFails, CopyWrites, Follows, LoadCounts, Looks, PrintsLike};
-    ghost use Rattle.fits_unit.specs.DataUnit.{IsCounted, LiesIn};
+    ghost use Rattle.fits_unit.specs.Again.{copied_blocks, CopiesUnit, CopyCounts, CopyFails, CopyWrites, Follows, HasTotal, LoadCounts, Looks, PrintsAs};
+    ghost use Rattle.fits_unit.specs.DataUnit.{away_plane, is_passed, opened_blocks, passed_blank, unit_at, IsCounted, IsKnown, LiesIn};
 
     /// A data unit in memory.
     pub fn held(plane: Plane) -> DataUnit
@@ -61,15 +62,16 @@ impl DataUnit {
         }
     }
 
-    /// A data unit that passed by, and lies at this place of a file.
-    pub fn away(alloc: Global, unit: PassedUnit, place: u64) -> Result<DataUnit, AllocError>
-        ensures bytes { IfOk result (λ it. it.plane.bytes ≡ unit.bytes) }
-        ensures layout { IfOk result (λ it. it.plane.layout ≡ unit.layout) }
-        ensures absent { IfOk result (λ it. it.absent
-            ≡ Some (record { place = place; blank = unit.blank })) }
-        ensures scans { IfOk result (λ it. it.plane.scans ≡ block_count unit.bytes) }
-        ensures reads { IfOk result (λ it. it.plane.reads ≡ 0) }
-        ensures joins { IfOk result (λ it. it.plane.joins ≡ 0) }
+    /// A data unit that passed by, or that is unread, and lies at this place of a file.
+    pub fn away(alloc: Global, unit: AwayUnit, place: u64) -> Result<DataUnit, AllocError>
+        ensures plane { IfOk result (λ it. it.plane ≡ away_plane unit) }
+        ensures absent { IfOk result (λ it. it.absent ≡ Some (record {
+          place = place;
+          known = is_passed unit;
+          blank = passed_blank unit;
+        })) }
+        ensures scans { IfOk result (λ it. it.plane.scans
+            ≡ opened_blocks it.plane.bytes it.absent) }
     {
         let _scanned = unit.layout();
         Ok(DataUnit {
@@ -85,14 +87,27 @@ impl DataUnit {
         self.absent.is_none()
     }
 
-    /// Whether its statistics are known: it is in memory, or BLANK is what it was as its bytes passed
-    /// by.
+    /// Whether its bytes are known: it is in memory, or they passed by.
+    pub fn is_known(&self) -> bool
+        ensures { IsTrue result ↔ IsKnown self.now.absent }
+    {
+        match &self.absent {
+            None => true,
+            Some(it) => matches!(&it.unit, AwayUnit::Passed(_)),
+        }
+    }
+
+    /// Whether its statistics are known: it is in memory, or its bytes passed by, and BLANK is what it
+    /// was then.
     pub fn is_counted(&self) -> bool
         ensures { IsTrue result ↔ IsCounted self.now.plane self.now.absent }
     {
         match &self.absent {
             None => true,
-            Some(it) => it.unit.blank() == it.unit.layout().blank,
+            Some(it) => match &it.unit {
+                AwayUnit::Passed(unit) => unit.blank() == unit.layout().blank,
+                AwayUnit::Unread(_) => false,
+            },
         }
     }
 
@@ -134,28 +149,39 @@ impl DataUnit {
     {
         match &self.absent {
             None => self.plane.value_stats(offset),
-            Some(it) => it.unit.value_stats(offset),
+            Some(it) => match &it.unit {
+                AwayUnit::Passed(unit) => unit.value_stats(offset),
+                AwayUnit::Unread(_) => unreachable!(),
+            },
         }
     }
 
     /// The total of its words, with the fill.
     pub fn total(&self) -> u64
+        requires { IsKnown self.now.absent }
         ensures { result ≡ word_total self.now.plane.bytes }
     {
         match &self.absent {
             None => self.plane.total(),
-            Some(it) => it.unit.total(),
+            Some(it) => match &it.unit {
+                AwayUnit::Passed(unit) => unit.total(),
+                AwayUnit::Unread(_) => unreachable!(),
+            },
         }
     }
 
     /// Whether each byte of the fill is the one that it should be.
     pub fn fill_ok(&self) -> bool
+        requires { IsKnown self.now.absent }
         ensures { result ≡ list_all (nat_eq self.now.plane.layout.fill)
             (drop self.now.plane.layout.used self.now.plane.bytes) }
     {
         match &self.absent {
             None => self.plane.fill_ok(),
-            Some(it) => it.unit.fill_ok(),
+            Some(it) => match &it.unit {
+                AwayUnit::Passed(unit) => unit.fill_ok(),
+                AwayUnit::Unread(_) => unreachable!(),
+            },
         }
     }
 
@@ -282,9 +308,54 @@ impl DataUnit {
         self.plane.renew(room, bytes, layout);
     }
 
-    /// Reads it into memory, where it isn't, through a room: each of its blocks is scanned once again,
-    /// and its counts go on. What is read is compared with what is known of it, by its length and its
-    /// total.
+    /// Has it known, where it isn't: its bytes pass by, through a room of one block at least, and each
+    /// of its blocks is scanned once.
+    pub fn know<F: Stored>(
+        &mut self,
+        file: &F,
+        log: &mut ReadLog,
+        room: &mut [u8],
+    ) -> Result<(), LoadFault>
+        requires { 2880 ≤ length room.old }
+        ensures known { OnOk result (IsKnown self.new.absent) }
+        ensures fresh { (IsKnown self.old.absent → ⊥)
+            → OnOk result (IsCounted self.new.plane self.new.absent) }
+        ensures same { (told : List ℕ) → IsOf told log.new → LiesIn told self.old.plane self.old.absent
+            → OnOk result (self.new.plane.bytes ≡ unit_at told self.old.plane.bytes self.old.absent) }
+        ensures lies { (told : List ℕ) → IsOf told log.new → LiesIn told self.old.plane self.old.absent
+            → LiesIn told self.new.plane self.new.absent }
+        ensures place { IfSome self.old.absent (λ it. IfSome self.new.absent (λ at. at.place ≡ it.place)) }
+        ensures away { self.new.absent ≡ None → self.old.absent ≡ None }
+        ensures layout { self.new.plane.layout ≡ self.old.plane.layout }
+        ensures size { length self.new.plane.bytes ≡ length self.old.plane.bytes }
+        ensures idle { IsKnown self.old.absent → self.new ≡ self.old }
+        ensures at_once { IsKnown self.old.absent → IsOk result }
+        ensures reads { self.new.plane.reads ≡ self.old.plane.reads }
+        ensures joins { self.new.plane.joins ≡ self.old.plane.joins }
+        ensures more_scans { self.old.plane.scans ≤ self.new.plane.scans }
+        ensures scans { self.new.plane.scans
+            ≤ self.old.plane.scans + block_count self.old.plane.bytes }
+        ensures quiet { OnOk result (log.new.failures ≡ log.old.failures) }
+        ensures err { OnErr result (self.new ≡ self.old) }
+        ensures counted { IfErr result (LoadCounts log.old.failures log.new.failures) }
+        ensures steady { (told : List ℕ) → IsOf told log.new
+            → LiesIn told self.old.plane self.old.absent
+            → IfErr result (λ why. why ≡ LoadFault.Changed → ⊥) }
+        ensures follows { Follows log.old log.new }
+        ensures looked { log.new.looked ≡ log.old.looked }
+        ensures room { length room.new ≡ length room.old }
+    {
+        let Some(mut it) = self.absent.take() else {
+            return Ok(());
+        };
+        let known = know_absent(file, log, &mut it, room);
+        self.absent = Some(it);
+        known
+    }
+
+    /// Reads it into memory, where it isn't, through a room: each of its blocks is scanned once (again,
+    /// where it is known), and its counts go on. What is read is compared with what is known of it, by
+    /// its length and its total.
     pub fn load<F: Stored>(
         &mut self,
         alloc: Global,
@@ -297,13 +368,12 @@ impl DataUnit {
         ensures layout { OnOk result (self.new.plane.layout ≡ self.old.plane.layout) }
         ensures loaded { OnOk result (IfSome self.old.absent
             (λ it. ReadsOn it.place log.old log.new self.new.plane.bytes)) }
-        ensures same { (bytes : List ℕ) → IsOf bytes log.new
-            → LiesIn bytes self.old.plane self.old.absent
-            → OnOk result (self.new.plane.bytes ≡ self.old.plane.bytes) }
+        ensures same { (told : List ℕ) → IsOf told log.new → LiesIn told self.old.plane self.old.absent
+            → OnOk result (self.new.plane.bytes ≡ unit_at told self.old.plane.bytes self.old.absent) }
         ensures size { OnOk result
             (length self.new.plane.bytes ≡ length self.old.plane.bytes) }
-        ensures total { OnOk result
-            (word_total self.new.plane.bytes ≡ word_total self.old.plane.bytes) }
+        ensures total { OnOk result (IsKnown self.old.absent
+            → word_total self.new.plane.bytes ≡ word_total self.old.plane.bytes) }
         ensures idle { self.old.absent ≡ None → self.new ≡ self.old }
         ensures at_once { self.old.absent ≡ None → IsOk result }
         ensures reads { self.new.plane.reads ≡ self.old.plane.reads }
@@ -318,8 +388,8 @@ impl DataUnit {
         ensures quiet { OnOk result (log.new.failures ≡ log.old.failures) }
         ensures err { OnErr result (self.new ≡ self.old) }
         ensures counted { IfErr result (LoadCounts log.old.failures log.new.failures) }
-        ensures steady { (bytes : List ℕ) → IsOf bytes log.new
-            → LiesIn bytes self.old.plane self.old.absent
+        ensures steady { (told : List ℕ) → IsOf told log.new
+            → LiesIn told self.old.plane self.old.absent
             → IfErr result (λ why. why ≡ LoadFault.Changed → ⊥) }
         ensures follows { Follows log.old log.new }
         ensures looked { log.new.looked ≡ log.old.looked }
@@ -342,8 +412,8 @@ impl DataUnit {
     }
 
     /// Writes its bytes: those in memory, or else those that the file has at its place, through a room
-    /// of whole words. What is copied is compared with what is known of it, by its length and its
-    /// total.
+    /// of one block at least. What is copied is compared with what is known of it, by its length and
+    /// its total.
     pub fn emit_from<F: Stored, W: Sink>(
         &self,
         file: &F,
@@ -352,16 +422,17 @@ impl DataUnit {
         sink: &mut W,
     ) -> Result<(), CopyFault>
         requires { 2880 ≤ length room.old }
-        ensures ok { (bytes : List ℕ) → IsOf bytes log.new
-            → LiesIn bytes self.now.plane self.now.absent
-            → OnOk result (Prints self.now.plane.bytes (W.state sink.old) (W.state sink.new)) }
-        ensures like { OnOk result (PrintsLike self.now.plane.bytes
+        ensures ok { (told : List ℕ) → IsOf told log.new
+            → LiesIn told self.now.plane self.now.absent
+            → OnOk result (Prints (unit_at told self.now.plane.bytes self.now.absent)
             (W.state sink.old) (W.state sink.new)) }
+        ensures like { OnOk result (PrintsAs (HasTotal self.now.plane.bytes self.now.absent)
+            (length self.now.plane.bytes) (W.state sink.old) (W.state sink.new)) }
         ensures copied { OnOk result (CopiesUnit self.now.plane self.now.absent log.old log.new
             (W.state sink.old) (W.state sink.new)) }
-        ensures err { (bytes : List ℕ) → IsOf bytes log.new
-            → LiesIn bytes self.now.plane self.now.absent
-            → IfErr result (CopyFails self.now.plane.bytes
+        ensures err { (told : List ℕ) → IsOf told log.new
+            → LiesIn told self.now.plane self.now.absent
+            → IfErr result (CopyFails (unit_at told self.now.plane.bytes self.now.absent)
             (W.state sink.old) (W.state sink.new)) }
         ensures writes { IfErr result (CopyWrites (W.state sink.old) (W.state sink.new)) }
         ensures follows { Follows log.old log.new }
@@ -378,15 +449,76 @@ impl DataUnit {
         };
         let _layout = it.unit.layout();
         let total = copy_again(file, log, it.place, it.unit.byte_len(), room, sink)?;
-        if total != it.unit.total() {
+        let other = has_another_total(&it.unit, total);
+        if other {
             return Err(CopyFault::Changed);
         }
         Ok(())
     }
 }
 
-// The plane of a data unit that isn't in memory, as its file has it now, which is to have the length
-// and the total that are known.
+// Whether a unit is known, and has another total than this.
+fn has_another_total(unit: &AwayUnit, total: u64) -> bool
+    ensures known { IsTrue result → is_passed unit.now ≡ true }
+    ensures other { IsTrue result → total ≡ word_total (away_plane unit.now).bytes → ⊥ }
+    ensures same { result ≡ false → is_passed unit.now ≡ true
+        → total ≡ word_total (away_plane unit.now).bytes }
+{
+    match unit {
+        AwayUnit::Passed(it) => it.total() != total,
+        AwayUnit::Unread(_) => false,
+    }
+}
+
+// Has a unit known that isn't in memory, where it isn't known: its bytes pass by.
+fn know_absent<F: Stored>(
+    file: &F,
+    log: &mut ReadLog,
+    it: &mut Absent,
+    room: &mut [u8],
+) -> Result<(), LoadFault>
+    requires { 2880 ≤ length room.old }
+    ensures known { OnOk result (is_passed it.new.unit ≡ true) }
+    ensures fresh { is_passed it.old.unit ≡ false
+        → OnOk result ((away_plane it.new.unit).layout.blank ≡ passed_blank it.new.unit) }
+    ensures same { (told : List ℕ) → IsOf told log.new
+        → LiesIn told (away_plane it.old.unit) (absence_of (Some it.old))
+        → OnOk result ((away_plane it.new.unit).bytes
+        ≡ unit_at told (away_plane it.old.unit).bytes (absence_of (Some it.old))) }
+    ensures lies { (told : List ℕ) → IsOf told log.new
+        → LiesIn told (away_plane it.old.unit) (absence_of (Some it.old))
+        → LiesIn told (away_plane it.new.unit) (absence_of (Some it.new)) }
+    ensures place { it.new.place ≡ it.old.place }
+    ensures layout { (away_plane it.new.unit).layout ≡ (away_plane it.old.unit).layout }
+    ensures size { length (away_plane it.new.unit).bytes ≡ length (away_plane it.old.unit).bytes }
+    ensures idle { is_passed it.old.unit ≡ true → it.new ≡ it.old }
+    ensures at_once { is_passed it.old.unit ≡ true → IsOk result }
+    ensures reads { (away_plane it.new.unit).reads ≡ (away_plane it.old.unit).reads }
+    ensures joins { (away_plane it.new.unit).joins ≡ (away_plane it.old.unit).joins }
+    ensures more_scans { (away_plane it.old.unit).scans ≤ (away_plane it.new.unit).scans }
+    ensures scans { (away_plane it.new.unit).scans
+        ≤ (away_plane it.old.unit).scans + block_count (away_plane it.old.unit).bytes }
+    ensures quiet { OnOk result (log.new.failures ≡ log.old.failures) }
+    ensures err { OnErr result (it.new ≡ it.old) }
+    ensures counted { IfErr result (LoadCounts log.old.failures log.new.failures) }
+    ensures steady { (told : List ℕ) → IsOf told log.new
+        → LiesIn told (away_plane it.old.unit) (absence_of (Some it.old))
+        → IfErr result (λ why. why ≡ LoadFault.Changed → ⊥) }
+    ensures follows { Follows log.old log.new }
+    ensures looked { log.new.looked ≡ log.old.looked }
+    ensures room { length room.new ≡ length room.old }
+{
+    let AwayUnit::Unread(unit) = &it.unit else {
+        return Ok(());
+    };
+    let layout = unit.layout();
+    let passed = pass_again(file, log, it.place, unit.byte_len(), layout, room)?;
+    it.unit = AwayUnit::Passed(passed);
+    Ok(())
+}
+
+// The plane of a data unit that isn't in memory, as its file has it now, which is to have the length,
+// and the total, where that is known.
 fn plane_again<F: Stored>(
     alloc: Global,
     file: &F,
@@ -396,17 +528,18 @@ fn plane_again<F: Stored>(
 ) -> Result<Plane, LoadFault>
     requires { 0 < length room.old }
     ensures are { IfOk result (λ p. ReadsOn it.now.place log.old log.new p.bytes) }
-    ensures size { IfOk result (λ p. length p.bytes ≡ length it.now.unit.bytes) }
-    ensures total { IfOk result (λ p. word_total p.bytes ≡ word_total it.now.unit.bytes) }
-    ensures layout { IfOk result (λ p. p.layout ≡ it.now.unit.layout) }
+    ensures size { IfOk result (λ p. length p.bytes ≡ length (away_plane it.now.unit).bytes) }
+    ensures total { IfOk result (λ p. is_passed it.now.unit ≡ true
+        → word_total p.bytes ≡ word_total (away_plane it.now.unit).bytes) }
+    ensures layout { IfOk result (λ p. p.layout ≡ (away_plane it.now.unit).layout) }
     ensures scans { IfOk result (λ p. p.scans ≡ block_count p.bytes) }
     ensures reads { IfOk result (λ p. p.reads ≡ 0) }
     ensures joins { IfOk result
         (λ p. (d : ℕ) → block_count p.bytes ≤ 2 ^ d → p.joins ≤ 2 ^ d) }
     ensures quiet { OnOk result (log.new.failures ≡ log.old.failures) }
     ensures counted { IfErr result (LoadCounts log.old.failures log.new.failures) }
-    ensures steady { (bytes : List ℕ) → IsOf bytes log.new
-        → take (length it.now.unit.bytes) (drop it.now.place bytes) ≡ it.now.unit.bytes
+    ensures steady { (told : List ℕ) → IsOf told log.new
+        → LiesIn told (away_plane it.now.unit) (absence_of (Some it.now))
         → IfErr result (λ why. why ≡ LoadFault.Changed → ⊥) }
     ensures follows { Follows log.old log.new }
     ensures looked { log.new.looked ≡ log.old.looked }
@@ -417,7 +550,8 @@ fn plane_again<F: Stored>(
     let Ok(plane) = Plane::of(alloc, bytes, layout) else {
         return Err(LoadFault::Memory);
     };
-    if plane.total() != it.unit.total() {
+    let other = has_another_total(&it.unit, plane.total());
+    if other {
         return Err(LoadFault::Changed);
     }
     Ok(plane)

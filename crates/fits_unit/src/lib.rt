@@ -1,13 +1,17 @@
-//! Data units in memory, or away in their file and known by what was found as they passed by.
+//! Data units in memory, or away in their file: known by what was found as they passed by, or unread.
 #![tactic(auto)]
 
 mod absent;
 mod again;
+mod away_unit;
 mod data_unit;
 mod passed_unit;
 mod passing_unit;
+mod unread_unit;
 
 pub use again::{CopyFault, LoadFault};
+pub use away_unit::AwayUnit;
 pub use data_unit::DataUnit;
 pub use passed_unit::PassedUnit;
 pub use passing_unit::PassingUnit;
+pub use unread_unit::UnreadUnit;

@@ -21,7 +21,7 @@ pub struct PassedUnit {
 }
 
 impl Model for PassedUnit {
-    ghost use Rattle.fits_unit.specs.Passing.{IsKnown, PassedState};
+    ghost use Rattle.fits_unit.specs.Passing.{KnowsOf, PassedState};
 
     ghost Value = { PassedState };
 
@@ -32,7 +32,7 @@ impl Model for PassedUnit {
       scans = it.scans.total;
     } };
 
-    ghost invariant = { λ it. IsKnown
+    ghost invariant = { λ it. KnowsOf
         it.gone.bytes it.layout it.blank it.stored it.total it.filled it.len it.scans.total };
 }
 
@@ -43,7 +43,7 @@ impl PassedUnit {
     ghost use Rattle.fits_pixels.specs.Layout.{IsLayout, block_count};
     ghost use Rattle.fits_pixels.specs.Pixels.{pixels};
     ghost use Rattle.fits_pixels.specs.Statistics.{value_statistics};
-    ghost use Rattle.fits_unit.specs.Passing.{IsKnown};
+    ghost use Rattle.fits_unit.specs.Passing.{KnowsOf};
 
     /// A data unit all of whose blocks passed by.
     pub(crate) fn of(
@@ -55,7 +55,7 @@ impl PassedUnit {
         scans: Count,
         gone: GoneBytes,
     ) -> PassedUnit
-        requires { IsKnown gone.bytes layout layout.blank stored total filled len scans.total }
+        requires { KnowsOf gone.bytes layout layout.blank stored total filled len scans.total }
         ensures { result ≡ record {
           bytes = gone.bytes;
           layout = layout;

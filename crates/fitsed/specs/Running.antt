@@ -9,7 +9,8 @@ use Rattle.fits_cli.specs.Terms.{asking}
 use Rattle.fits_cli.specs.declared.edited.Edited.{Edited}
 use Rattle.fits_tell.specs.declared.end.End.{End}
 use Rattle.fits_tell.specs.declared.fault.Fault.{Fault}
-use Rattle.fits_tell.specs.declared.fault.Fault.TheVariants.{Memory, ReadFailed, WriteFailed}
+use Rattle.fits_tell.specs.declared.fault.Fault.TheVariants.{Memory, ReadFailed, WriteFailed, Reread as RereadFault}
+use Rattle.fits_tell.specs.declared.reread.Reread.TheVariants as again
 use Rattle.fits_tell.specs.declared.level.Level.{Level}
 use Rattle.fits_tell.specs.declared.level.Level.TheVariants.{All, Errors, Quiet}
 use Rattle.fits_cli.specs.declared.manner.Manner.{Manner}
@@ -48,6 +49,16 @@ pub record RunsThrough (terms : Terms) (old new : Streams) (done : Result Edited
 abbrev pub Runs : Terms → Streams → Streams → Result Edited Fault → Type 0
 Runs terms old new done = RunsByPlaces terms old new done ⊎ RunsThrough terms old new done
 
+-- what a run came to stands, or is given up since the file that it read is another than it was as the run began
+abbrev pub IsOrChanged : Result Edited Fault → Result Edited Fault → Type 0
+IsOrChanged ran done = (done ≡ ran) ⊎ (done ≡ Err (RereadFault again.Changed))
+
+-- a run over a file, either way, and then this
+pub record RunsThen (terms : Terms) (old new : Streams) (done : Result Edited Fault) : Type 0 where
+  pub ran : Result Edited Fault
+  pub runs : Runs terms old new ran
+  pub stands : IsOrChanged ran done
+
 -- the level of the problems that keep a result from being saved
 abbrev pub level_by : Bool → Bool → Level
 level_by false strict = Quiet
@@ -67,7 +78,7 @@ pub record EditsFile (asked : SavingTerms) (script script' : SourceState) (out o
   pub told_after : Option SinkState
   pub done : Result Edited Fault
   pub fresh : saved.contents.taken ≡ Some []
-  pub runs : Runs (terms_by asked spare) (record { script = script; out = out; saved = saved; told = told }) (record { script = script'; out = out'; saved = holds; told = told_after }) done
+  pub runs : RunsThen (terms_by asked spare) (record { script = script; out = out; saved = saved; told = told }) (record { script = script'; out = out'; saved = holds; told = told_after }) done
   pub kept : StandsOrFails done ended
 
 -- none was begun, for want of memory, of the file or of its place: no other stream was touched

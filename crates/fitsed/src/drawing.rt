@@ -4,6 +4,7 @@ use crate::detail::Detail;
 use crate::files::{is_stored, source_of};
 use crate::reporting::{NOT_TAKEN, reported};
 use fits_cli::Fault;
+use fits_passing::Look;
 use fits_patch::{PatchEnd, PatchFault, run_patch};
 use fits_session::{ReadFileFault, Session};
 use fits_stream::{ReadLog, Sink, Source, Watched};
@@ -50,7 +51,8 @@ pub fn draw<R: Files<File = File> + Print + Eprint + AllocGlobal>(
 fn drawn<O: Sink>(alloc: Global, a: File, b: File, out: &mut O) -> Result<PatchEnd, ReadFileFault> {
     let mut b = source_of(b);
     if is_stored(&a) {
-        let session = Session::read_stored(alloc, &a, &mut ReadLog::none())?;
+        let session = Session::read_stored(alloc, Look::Headers, &a, &mut ReadLog::none())?;
+        session.is_sound();
         return Ok(run_patch(alloc, session, &mut b, out));
     }
     drawn_through(alloc, &mut Watched::new(a), &mut b, out)

@@ -2,7 +2,7 @@
 ghost use Rattle.std.specs.Prelude.{◌≡◌, true, None};
 ghost use Rattle.std.specs.Io.Buffered.{writer_inner};
 ghost use Rattle.std.specs.Option.{option_map};
-ghost use Rattle.fitsed.specs.Running.{terms_by, Edits, Runs};
+ghost use Rattle.fitsed.specs.Running.{terms_by, Edits, IsOrChanged, RunsThen};
 ghost use Rattle.fitsed.specs.Saving.{is_saved, status_of_saving, IsPlaced, StandsOrFails};
 
 use crate::detail::Detail;
@@ -23,7 +23,7 @@ use crate::subject::Subject;
 use crate::task::{Inputs, SavingTerms};
 use crate::words::oddity_of;
 use crate::wrong_sums::tell_wrong_sums;
-use fits_cli::{Edited, Fault, Level, Saves, Terms, run_edit_stored, run_edit_told};
+use fits_cli::{Edited, Fault, Level, Reread, Saves, Terms, run_edit_stored, run_edit_told};
 use fits_save::{Place, SaveFault, SavedFile, Seen, System};
 use fits_stream::{FileSource, NamedLines, ReadLog, Sink, Source, Watched};
 use std::alloc::Global;
@@ -212,15 +212,17 @@ fn run_over<S: Source, P: Sink, O: Sink, E: Sink>(
     out: &mut O,
     told: &mut Option<E>,
 ) -> Result<Edited, Fault>
-    ensures { Runs terms
+    ensures { RunsThen terms
         (record { script = S.state script.old; out = O.state out.old; saved = P.state saved.old; told = option_map E.state told.old })
         (record { script = S.state script.new; out = O.state out.new; saved = P.state saved.new; told = option_map E.state told.new })
         result }
 {
     match (is_stored(&file), spares) {
         (true, true) => {
+            let seen = Seen::of(&file);
             let mut log = ReadLog::none();
-            run_edit_stored(alloc, terms, &file, &mut log, script, saved, out, told)
+            let done = run_edit_stored(alloc, terms, &file, &mut log, script, saved, out, told);
+            unless_changed(&file, seen, done)
         }
         (true, false) => {
             let mut file = FileSource::stored(file);
@@ -230,6 +232,24 @@ fn run_over<S: Source, P: Sink, O: Sink, E: Sink>(
             let mut file = Watched::new(file);
             run_edit_told(alloc, terms, &mut file, script, saved, out, told)
         }
+    }
+}
+
+// What a run over a stored file came to, unless the file is another than it was seen to be as the run
+// began: then its result isn't kept.
+fn unless_changed(
+    file: &File,
+    seen: Option<Seen>,
+    done: Result<Edited, Fault>,
+) -> Result<Edited, Fault>
+    ensures { IsOrChanged done result }
+{
+    let Ok(Edited::Done(_)) = done else {
+        return done;
+    };
+    match seen {
+        Some(seen) if !seen.is_as_it_was(file) => Err(Fault::Reread(Reread::Changed)),
+        _ => done,
     }
 }
 

@@ -1,4 +1,4 @@
-//! An HDU whose data unit lies in a file, and is read again where it is wanted.
+//! An HDU whose data unit lies in a file, and is read where it is wanted.
 use super::Hdu;
 use fits_passing::PassedHdu;
 use fits_stream::{ReadLog, Sink, Stored};
@@ -10,20 +10,21 @@ impl Hdu {
     ghost use Rattle.fits_stream.specs.Agree.{IsOf, ReadsOn};
     ghost use Rattle.fits_stream.specs.Stream.{Prints};
     ghost use Rattle.fits_pixels.specs.Layout.{block_count};
-    ghost use Rattle.fits_unit.specs.Again.{copied_blocks, CopyCounts, CopyFails, CopyWrites, Follows, LoadCounts, Looks, PrintsLike};
-    ghost use Rattle.fits_unit.specs.DataUnit.{IsCounted, LiesIn};
+    ghost use Rattle.fits_unit.specs.Again.{copied_blocks, CopyCounts, CopyFails, CopyWrites, Follows, LoadCounts, Looks, PrintsAs};
+    ghost use Rattle.fits_unit.specs.DataUnit.{away_plane, is_passed, passed_blank, IsCounted, LiesIn};
     ghost use Rattle.fits_passing.specs.Hdu.{hdu_bytes};
-    ghost use Rattle.fits_passing.specs.HduReading.{passed_parts, IsPassedWhole};
-    ghost use Rattle.fits_hdu.specs.State.{parts_of, ReadsUpTo};
-    ghost use Rattle.fits_hdu.specs.Work.{IsKnownAt, Loads, WritesHdu};
+    ghost use Rattle.fits_passing.specs.Met.{IsMet};
+    ghost use Rattle.fits_hdu.specs.State.{hdu_at, parts_of, IsSeen, ReadsUpTo};
+    ghost use Rattle.fits_hdu.specs.Work.{HasHduTotal, IsOpenedAt, Loads, WritesHdu};
 
-    /// The HDU whose data unit passed by, and lies at this place of a file.
+    /// The HDU whose data unit passed by or stays unread, and lies at this place of a file.
     pub fn away(alloc: Global, passed: PassedHdu, place: u64) -> Result<Hdu, AllocError>
-        requires { IsPassedWhole passed.header passed.unit (passed_parts passed.header.header passed.unit) }
-        ensures parts { IfOk result (λ it. parts_of it
-            ≡ passed_parts passed.header.header passed.unit) }
+        requires { IsMet passed.header passed.unit }
+        ensures header { IfOk result (λ it. it.header.header ≡ passed.header.header) }
         ensures shape { IfOk result (λ it. it.header.shape ≡ passed.header.shape) }
-        ensures known { IfOk result (IsKnownAt place) }
+        ensures unit { IfOk result (λ it. it.plane.bytes ≡ (away_plane passed.unit).bytes) }
+        ensures known { IfOk result (λ it. IfSome it.absent (λ at. at.known ≡ is_passed passed.unit)) }
+        ensures opened { IfOk result (IsOpenedAt place) }
     {
         let PassedHdu { header, unit } = passed;
         match DataUnit::away(alloc, unit, place) {
@@ -42,12 +43,51 @@ impl Hdu {
         self.unit.is_held()
     }
 
-    /// Whether its statistics are known: its data unit is in memory, or BLANK names the number that it
-    /// named as the data unit passed by.
+    /// Whether its data unit is known: it is in memory, or its bytes passed by.
+    pub fn is_known(&self) -> bool
+        ensures { IsTrue result ↔ IsSeen self.now }
+    {
+        self.unit.is_known()
+    }
+
+    /// Whether its statistics are known: its data unit is in memory, or it passed by, and BLANK
+    /// names the number that it named then.
     pub fn is_counted(&self) -> bool
         ensures { IsTrue result ↔ IsCounted self.now.plane self.now.absent }
     {
         self.unit.is_counted()
+    }
+
+    /// Has its data unit known, where it isn't: its bytes pass by, through a room of one block at least.
+    pub fn know<F: Stored>(
+        &mut self,
+        file: &F,
+        log: &mut ReadLog,
+        room: &mut [u8],
+    ) -> Result<(), LoadFault>
+        requires { 2880 ≤ length room.old }
+        ensures known { OnOk result (IsSeen self.new) }
+        ensures fresh { (IsSeen self.old → ⊥)
+            → OnOk result (IsCounted self.new.plane self.new.absent) }
+        ensures same { (told : List ℕ) → IsOf told log.new → LiesIn told self.old.plane self.old.absent
+            → OnOk result (parts_of self.new ≡ parts_of (hdu_at told self.old)) }
+        ensures lies { (told : List ℕ) → IsOf told log.new → LiesIn told self.old.plane self.old.absent
+            → LiesIn told self.new.plane self.new.absent }
+        ensures place { IfSome self.old.absent (λ it. IfSome self.new.absent (λ at. at.place ≡ it.place)) }
+        ensures away { self.new.absent ≡ None → self.old.absent ≡ None }
+        ensures loads { Loads self.old self.new }
+        ensures idle { IsSeen self.old → self.new ≡ self.old }
+        ensures at_once { IsSeen self.old → IsOk result }
+        ensures quiet { OnOk result (log.new.failures ≡ log.old.failures) }
+        ensures err { OnErr result (self.new ≡ self.old) }
+        ensures counted { IfErr result (LoadCounts log.old.failures log.new.failures) }
+        ensures steady { (told : List ℕ) → IsOf told log.new
+            → LiesIn told self.old.plane self.old.absent
+            → IfErr result (λ why. why ≡ LoadFault.Changed → ⊥) }
+        ensures follows { Follows log.old log.new }
+        ensures size { length room.new ≡ length room.old }
+    {
+        self.unit.know(file, log, room)
     }
 
     /// Reads its data unit into memory, where it isn't there, from the file that it lies in, through a
@@ -63,9 +103,8 @@ impl Hdu {
         ensures held { OnOk result (self.new.absent ≡ None) }
         ensures loaded { OnOk result (IfSome self.old.absent
             (λ it. ReadsOn it.place log.old log.new self.new.plane.bytes)) }
-        ensures same { (bytes : List ℕ) → IsOf bytes log.new
-            → LiesIn bytes self.old.plane self.old.absent
-            → OnOk result (parts_of self.new ≡ parts_of self.old) }
+        ensures same { (told : List ℕ) → IsOf told log.new → LiesIn told self.old.plane self.old.absent
+            → OnOk result (parts_of self.new ≡ parts_of (hdu_at told self.old)) }
         ensures loads { Loads self.old self.new }
         ensures scanned { OnOk result (IfSome self.old.absent (λ _. self.new.plane.scans
             ≡ self.old.plane.scans + block_count self.old.plane.bytes)) }
@@ -74,8 +113,8 @@ impl Hdu {
         ensures quiet { OnOk result (log.new.failures ≡ log.old.failures) }
         ensures err { OnErr result (self.new ≡ self.old) }
         ensures counted { IfErr result (LoadCounts log.old.failures log.new.failures) }
-        ensures steady { (bytes : List ℕ) → IsOf bytes log.new
-            → LiesIn bytes self.old.plane self.old.absent
+        ensures steady { (told : List ℕ) → IsOf told log.new
+            → LiesIn told self.old.plane self.old.absent
             → IfErr result (λ why. why ≡ LoadFault.Changed → ⊥) }
         ensures follows { Follows log.old log.new }
         ensures size { length room.new ≡ length room.old }
@@ -84,7 +123,7 @@ impl Hdu {
     }
 
     /// Writes the header and then the data unit: that in memory, or else what the file has at its
-    /// place, through a room of whole words. What is copied is compared with what is known of it, by
+    /// place, through a room of one block at least. What is copied is compared with what is known of it, by
     /// its length and its total. Each card's read is counted.
     ///
     /// Where a call fails a prefix was written.
@@ -96,17 +135,17 @@ impl Hdu {
         sink: &mut W,
     ) -> Result<(), CopyFault>
         requires { 2880 ≤ length room.old }
-        ensures ok { (bytes : List ℕ) → IsOf bytes log.new
-            → LiesIn bytes self.old.plane self.old.absent
-            → OnOk result (Prints (hdu_bytes (parts_of self.old))
+        ensures ok { (told : List ℕ) → IsOf told log.new
+            → LiesIn told self.old.plane self.old.absent
+            → OnOk result (Prints (hdu_bytes (parts_of (hdu_at told self.old)))
             (W.state sink.old) (W.state sink.new)) }
-        ensures like { OnOk result (PrintsLike (hdu_bytes (parts_of self.old))
-            (W.state sink.old) (W.state sink.new)) }
+        ensures like { OnOk result (PrintsAs (HasHduTotal self.old)
+            (length (hdu_bytes (parts_of self.old))) (W.state sink.old) (W.state sink.new)) }
         ensures copied { OnOk result (WritesHdu self.old log.old log.new
             (W.state sink.old) (W.state sink.new)) }
-        ensures err { (bytes : List ℕ) → IsOf bytes log.new
-            → LiesIn bytes self.old.plane self.old.absent
-            → IfErr result (CopyFails (hdu_bytes (parts_of self.old))
+        ensures err { (told : List ℕ) → IsOf told log.new
+            → LiesIn told self.old.plane self.old.absent
+            → IfErr result (CopyFails (hdu_bytes (parts_of (hdu_at told self.old)))
             (W.state sink.old) (W.state sink.new)) }
         ensures writes { IfErr result (CopyWrites (W.state sink.old) (W.state sink.new)) }
         ensures follows { Follows log.old log.new }

@@ -13,13 +13,14 @@ impl Hdu {
     ghost use Rattle.fits_header.specs.Findings.{card_findings};
     ghost use Rattle.fits_passing.specs.Findings.{hdu_counts, whole_codes};
     ghost use Rattle.fits_passing.specs.Hdu.{hdu_bytes};
-    ghost use Rattle.fits_hdu.specs.State.{parts_of, IsDescribed};
+    ghost use Rattle.fits_hdu.specs.State.{parts_of, IsDescribed, IsSeen};
     ghost use Rattle.fits_passing.specs.Sums.{data_sum, verdicts_of};
 
     /// The sum of its data unit, with the fill (FITS Standard 4.0, Appendix J). It takes no memory,
     /// and nothing is read.
     #[tactic(auto, unfolding(fits_passing::specs::Sums::data_sum))]
     pub fn datasum(&self) -> u32
+        requires { IsSeen self.now }
         ensures { result ≡ data_sum (parts_of self.now) }
     {
         fold(self.unit.total())
@@ -28,7 +29,8 @@ impl Hdu {
     /// Whether its sums are right (FITS Standard 4.0, section 4.4.2.7). It takes no memory, and
     /// reads no card and no block.
     pub fn verdicts(&self) -> Verdicts
-        requires { length (hdu_bytes (parts_of self.now)) ≤ 2 ^ 34 }
+        requires known { IsSeen self.now }
+        requires small { length (hdu_bytes (parts_of self.now)) ≤ 2 ^ 34 }
         ensures { result ≡ verdicts_of (parts_of self.now) }
     {
         // A header is of whole words, so the data unit's total adds to its own.
@@ -42,7 +44,8 @@ impl Hdu {
     /// those of its data and its sums. It takes no memory, and reads no card and no block.
     #[tactic(auto, using(crate::proofs::ReportLemmas::report_steps))]
     pub fn whole(&self) -> CodeSet
-        requires { length (hdu_bytes (parts_of self.now)) ≤ 2 ^ 34 }
+        requires known { IsSeen self.now }
+        requires small { length (hdu_bytes (parts_of self.now)) ≤ 2 ^ 34 }
         ensures { result ≡ whole_codes self.now.header.shape (parts_of self.now) }
     {
         let codes = judge_header_mark(&self.mark, self.header.shape());
@@ -62,7 +65,8 @@ impl Hdu {
     /// How many errors and warnings are found of it, which is called as another extension is or
     /// isn't. It takes no memory, and reads no card.
     pub fn counts(&mut self, repeated: bool) -> Counts
-        requires { length (hdu_bytes (parts_of self.old)) ≤ 2 ^ 34 }
+        requires known { IsSeen self.old }
+        requires small { length (hdu_bytes (parts_of self.old)) ≤ 2 ^ 34 }
         ensures value { result ≡ hdu_counts self.old.header.shape (parts_of self.old) repeated }
         ensures described { IsDescribed self.old }
         ensures within { result.errors + result.warnings ≤ length (hdu_bytes (parts_of self.old)) }

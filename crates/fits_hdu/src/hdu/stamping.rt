@@ -17,7 +17,7 @@ impl Hdu {
     ghost use Rattle.fits_passing.specs.Hdu.{hdu_bytes};
     ghost use Rattle.fits_hdu.specs.Keyword.{own_count};
     ghost use Rattle.fits_hdu.specs.Stamp.{stamp_adds, stamped, with_keyword, IsOneCard, IsSumName};
-    ghost use Rattle.fits_hdu.specs.State.{parts_of, IsDescribed, ReadsUpTo};
+    ghost use Rattle.fits_hdu.specs.State.{parts_of, IsDescribed, IsSeen, ReadsUpTo};
     ghost use Rattle.fits_passing.specs.Sums.{hdu_sum};
     ghost use Rattle.fits_passing.specs.Work.{apply_reads};
     ghost use Rattle.fits_hdu.specs.Work.{keyword_reads, plane_work, stamp_count_reads, stamp_reads};
@@ -42,7 +42,8 @@ impl Hdu {
     /// the data unit is read.
     #[tactic(auto, using(crate::proofs::StampingLemmas::stamp_steps))]
     pub fn stamp(&mut self, alloc: Global) -> Result<(), AllocError>
-        requires { length (hdu_bytes (parts_of self.old)) ≤ 2 ^ 34 - 2 ^ 13 }
+        requires known { IsSeen self.old }
+        requires small { length (hdu_bytes (parts_of self.old)) ≤ 2 ^ 34 - 2 ^ 13 }
         ensures ok { OnOk result (parts_of self.new ≡ stamped (parts_of self.old)) }
         ensures err { OnErr result (parts_of self.new ≡ parts_of self.old) }
         ensures room { OnErr result (self.new.header.room ≡ self.old.header.room) }
@@ -77,6 +78,7 @@ impl Hdu {
     /// Makes DATASUM and CHECKSUM right, in room that was asked for before. It takes no memory.
     #[tactic(auto, using(crate::proofs::StampingLemmas::stamp_steps))]
     pub fn stamp_with(&mut self, cards: StampCards)
+        requires known { IsSeen self.old }
         requires small { length (hdu_bytes (parts_of self.old)) ≤ 2 ^ 34 - 2 ^ 13 }
         requires room { stamp_adds self.old.header.header.cards ≤ self.old.header.room }
         ensures hdu { parts_of self.new ≡ stamped (parts_of self.old) }
@@ -107,7 +109,8 @@ impl Hdu {
     // The sum of the whole of it.
     #[tactic(auto, using(crate::proofs::StampingLemmas::sum_steps), unfolding(fits_passing::specs::Sums::hdu_sum))]
     fn sum(&self) -> u32
-        requires { length (hdu_bytes (parts_of self.now)) ≤ 2 ^ 34 }
+        requires known { IsSeen self.now }
+        requires small { length (hdu_bytes (parts_of self.now)) ≤ 2 ^ 34 }
         ensures { result ≡ hdu_sum (parts_of self.now) }
     {
         let _whole = self.card_count();

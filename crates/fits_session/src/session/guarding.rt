@@ -17,7 +17,7 @@ impl<H: Holder + Drop> Session<H> {
     ghost use Rattle.fits_session.specs.Marked.{edit_keeps, guarded, hdu_keeps, is_free, is_stamped_after, marked_refusal};
     ghost use Rattle.fits_session.specs.Query.{table_codes_in, QueryFails};
     ghost use Rattle.fits_session.specs.Refusal.{EditNeedsMemory};
-    ghost use Rattle.fits_session.specs.Session.{file_of, kept_of, marked_of, LacksEdit, LacksIn, LooksAt};
+    ghost use Rattle.fits_session.specs.Session.{absences_of, file_of, kept_of, marked_of, LacksEdit, LacksIn, LooksAt};
     ghost use Rattle.fits_passing.specs.File.{is_primary_hdu};
 
     /// Whether an edit keeps the columns of tables, where they are kept: `Shape`, as another shape is,
@@ -79,6 +79,7 @@ impl<H: Holder + Drop> Session<H> {
         ensures ok { IfOk result (λ codes. table_codes_in (file_of self.old) h ≡ Ok codes.items) }
         ensures err { IfErr result (QueryFails (table_codes_in (file_of self.old) h)) }
         ensures same { marked_of self.new ≡ marked_of self.old }
+        ensures absences { absences_of self.new.hdus ≡ absences_of self.old.hdus }
         ensures stays { LieStill self.old.hdus self.new.hdus }
     {
         let i = index_of(&self.hdus, h)?;

@@ -1,14 +1,17 @@
 //! A session over a stored file, in which data units lie until they are wanted.
-ghost use Rattle.std.specs.Prelude.{◌≡◌};
+ghost use Rattle.std.specs.Prelude.{◌≡◌, ℕ, List, true, All, IfErr, IsOk, OnOk};
+ghost use Rattle.fits_unit.specs.Again.{Follows, LoadCounts};
+ghost use Rattle.fits_session.specs.Away.{IsTold, LoadsAll};
+ghost use Rattle.fits_session.specs.Session.{marked_of, reads_of, session_at, IsSeen};
 
 use super::Session;
 use super::finding::index_of;
 use super::reading::read_away;
 use crate::holder::{Holder, InFile};
 use fits_edit::{Edit, HduEdit};
-use fits_passing::{FILE_LIMIT, ReadFileFault};
+use fits_passing::{Look, ReadFileFault};
 use fits_rules::array_bits;
-use fits_stream::{Intake, Reach, ReadLog, Stored, StoredSource};
+use fits_stream::{ReadLog, Stored, StoredSource};
 use fits_unit::LoadFault;
 use std::alloc::Global;
 
@@ -18,23 +21,25 @@ impl<'f, F: Stored> Session<InFile<'f, F>> {
     ghost use Rattle.fits_stream.specs.Agree.{IsOf};
     ghost use Rattle.fits_passing.specs.Work.{name_reads};
     ghost use Rattle.fits_hdu.specs.Work.{IsOpened};
-    ghost use Rattle.fits_session.specs.Away.{Agree, AllLie, StoredStops};
-    ghost use Rattle.fits_passing.specs.File.{file_bytes, IsFileOf};
+    ghost use Rattle.fits_session.specs.Away.{AllLie};
+    ghost use Rattle.fits_passing.specs.Met.{StoredStops};
+    ghost use Rattle.fits_passing.specs.File.{IsFileOf};
     ghost use Rattle.fits_session.specs.Marked.{unmarked};
-    ghost use Rattle.fits_session.specs.Session.{file_of, marked_of};
+    ghost use Rattle.fits_session.specs.Session.{file_of, marked_of, session_at, IsSeen};
 
-    /// Opens a stored file, as `read`. Its data units pass by, and lie there until they are wanted.
-    /// Reads of it that fail are counted.
+    /// Opens a stored file, as `read`. Its data units lie there until they are wanted: they pass by, or
+    /// stay unread. Reads of it that fail are counted.
     pub fn read_stored(
         alloc: Global,
+        look: Look,
         file: &'f F,
         log: &mut ReadLog,
     ) -> Result<Session<InFile<'f, F>>, ReadFileFault>
-        ensures ok { IfOk result (λ session. IsFileOf (file_bytes (file_of session))
-            (file_of session)) }
-        ensures of { IfOk result (λ session. (bytes : List ℕ) → IsOf bytes log.new
-            → bytes ≡ file_bytes (file_of session)) }
-        ensures lie { IfOk result (λ session. AllLie (file_bytes (file_of session)) session.hdus) }
+        ensures ok { IfOk result (λ session. (told : List ℕ) → IsOf told log.new
+            → IsFileOf told (file_of (session_at told session))) }
+        ensures lie { IfOk result (λ session. (told : List ℕ) → IsOf told log.new
+            → AllLie told session.hdus) }
+        ensures seen { look ≡ Look.All → IfOk result (λ session. All IsSeen session.hdus) }
         ensures unmarked { IfOk result (λ session. marked_of session
             ≡ unmarked (file_of session)) }
         ensures opened { IfOk result (λ session. All (IsOpened name_reads) session.hdus) }
@@ -43,9 +48,8 @@ impl<'f, F: Stored> Session<InFile<'f, F>> {
         ensures follows { Follows log.old log.new }
     {
         let holder = InFile::new(alloc, file)?;
-        let intake = Intake::new(alloc, FILE_LIMIT as usize, Reach::Piece)?;
         let mut source = StoredSource::new(file, 0, log.take_reads());
-        let read = read_away(alloc, intake, &mut source);
+        let read = read_away(alloc, look, file, &mut source);
         log.put_reads(source.into_log());
         let parts = read?;
         Ok(Session::of(alloc, parts, holder)?)
@@ -53,28 +57,87 @@ impl<'f, F: Stored> Session<InFile<'f, F>> {
 }
 
 impl<H: Holder + Drop> Session<H> {
-    ghost use Rattle.std.specs.Prelude.{◌≡◌, ◌⊎◌, ℕ, List, false, true, IfErr, IsOk, IsTrue, OnErr, OnOk};
+    ghost use Rattle.std.specs.Prelude.{◌≡◌, ◌⊎◌, ℕ, List, false, true, All, IfErr, IsOk, IsSome, IsTrue, OnErr, OnOk};
     ghost use Rattle.fits_unit.specs.Again.{Follows, LoadCounts};
     ghost use Rattle.fits_stream.specs.Agree.{IsOf};
-    ghost use Rattle.fits_session.specs.Away.{Agree, EditWantsPixels, LieStill, LoadsAt, LoadsFor, LoadWork};
+    ghost use Rattle.fits_session.specs.Away.{EditWantsData, IsTold, LieStill, LoadsAll, LoadsAt, LoadsFor, LoadWork};
+    ghost use Rattle.fits_session.specs.Edit.{hdu_of};
     ghost use Rattle.fits_session.specs.Query.{array_in, kind_in};
-    ghost use Rattle.fits_session.specs.Session.{file_of, marked_of, reads_of, works_of, HasPixels, HasStats, IsHeld, IsReadyFor, IsSoOf, NeedsPixels, WorksOnly};
+    ghost use Rattle.fits_session.specs.Session.{file_of, marked_of, reads_of, session_at, works_of, HasPixels, HasStats, IsHeld, IsReadyFor, IsSeen, IsSoOf, NeedsData, WorksOnly};
     ghost use Rattle.fits_making.specs.Making.{HasArray};
 
-    /// Has the data unit of HDU h in memory, if there is one: where it lies in a file it is read
-    /// again, and judged by its length and its total. Reads that fail are counted.
+    /// Has the data unit of HDU h known, if there is one: where it is unread its bytes pass by, as it
+    /// lies in its file. Reads that fail are counted.
+    pub fn know(&mut self, h: usize, log: &mut ReadLog) -> Result<(), LoadFault>
+        ensures known { OnOk result (IsSoOf IsSeen h self.new.hdus) }
+        ensures fresh { (IsSoOf IsSeen h self.old.hdus → ⊥)
+            → OnOk result (IsSoOf HasStats h self.new.hdus) }
+        ensures wanted { OnErr result (IsSome (hdu_of (file_of self.old) h)) }
+        ensures same { (told : List ℕ) → IsTold H.whole told log.new self.old.hdus
+            → OnOk result (marked_of (session_at told self.new) ≡ marked_of (session_at told self.old)) }
+        ensures alone { LoadsAt h self.old self.new }
+        ensures idle { IsSoOf IsSeen h self.old.hdus → self.new ≡ self.old }
+        ensures at_once { IsSoOf IsSeen h self.old.hdus → IsOk result }
+        ensures quiet { OnOk result (log.new.failures ≡ log.old.failures) }
+        ensures err { OnErr result (self.new ≡ self.old) }
+        ensures counted { IfErr result (LoadCounts log.old.failures log.new.failures) }
+        ensures unchanged { (told : List ℕ) → IsTold H.whole told log.new self.old.hdus
+            → IfErr result (λ why. why ≡ LoadFault.Changed → ⊥) }
+        ensures follows { Follows log.old log.new }
+        ensures told { (told : List ℕ) → IsTold H.whole told log.new self.old.hdus
+            → IsTold H.whole told log.new self.new.hdus }
+        ensures seen { All IsSeen self.old.hdus → All IsSeen self.new.hdus }
+        ensures whole { H.whole ≡ true → IsOk result }
+        ensures reads { reads_of self.new.hdus ≡ reads_of self.old.hdus }
+        ensures work { WorksOnly h (LoadWork (file_of self.old) h)
+            (works_of self.old.hdus) (works_of self.new.hdus) }
+    {
+        let Ok(i) = index_of(&self.hdus, h) else {
+            return Ok(());
+        };
+        self.holder.know(&mut self.hdus[i], log)
+    }
+
+    /// Has each data unit known, as `know`, one after another.
+    pub fn know_all(&mut self, log: &mut ReadLog) -> Result<(), LoadFault>
+        ensures known { OnOk result (All IsSeen self.new.hdus) }
+        ensures same { (told : List ℕ) → IsTold H.whole told log.new self.old.hdus
+            → marked_of (session_at told self.new) ≡ marked_of (session_at told self.old) }
+        ensures each { LoadsAll self.old self.new }
+        ensures idle { All IsSeen self.old.hdus → self.new ≡ self.old }
+        ensures at_once { All IsSeen self.old.hdus → IsOk result }
+        ensures quiet { OnOk result (log.new.failures ≡ log.old.failures) }
+        ensures counted { IfErr result (LoadCounts log.old.failures log.new.failures) }
+        ensures unchanged { (told : List ℕ) → IsTold H.whole told log.new self.old.hdus
+            → IfErr result (λ why. why ≡ LoadFault.Changed → ⊥) }
+        ensures follows { Follows log.old log.new }
+        ensures told { (told : List ℕ) → IsTold H.whole told log.new self.old.hdus
+            → IsTold H.whole told log.new self.new.hdus }
+        ensures seen { All IsSeen self.old.hdus → All IsSeen self.new.hdus }
+        ensures whole { H.whole ≡ true → IsOk result }
+        ensures reads { reads_of self.new.hdus ≡ reads_of self.old.hdus }
+    {
+        know_each(self, log)
+    }
+
+    /// Has the data unit of HDU h in memory, if there is one: where it lies in a file it is read, and
+    /// where it is known it is judged by its length and its total. Reads that fail are counted.
     pub fn load(&mut self, h: usize, log: &mut ReadLog) -> Result<(), LoadFault>
         ensures held { OnOk result (IsSoOf IsHeld h self.new.hdus) }
-        ensures same { Agree H.whole log.new self.old.hdus → OnOk result (marked_of self.new ≡ marked_of self.old) }
+        ensures same { (told : List ℕ) → IsTold H.whole told log.new self.old.hdus
+            → OnOk result (marked_of (session_at told self.new) ≡ marked_of (session_at told self.old)) }
         ensures alone { LoadsAt h self.old self.new }
         ensures idle { IsSoOf IsHeld h self.old.hdus → self.new ≡ self.old }
         ensures at_once { IsSoOf IsHeld h self.old.hdus → IsOk result }
         ensures quiet { OnOk result (log.new.failures ≡ log.old.failures) }
         ensures err { OnErr result (self.new ≡ self.old) }
         ensures counted { IfErr result (LoadCounts log.old.failures log.new.failures) }
-        ensures unchanged { Agree H.whole log.new self.old.hdus → IfErr result (λ why. why ≡ LoadFault.Changed → ⊥) }
+        ensures unchanged { (told : List ℕ) → IsTold H.whole told log.new self.old.hdus
+            → IfErr result (λ why. why ≡ LoadFault.Changed → ⊥) }
         ensures follows { Follows log.old log.new }
-        ensures stays { LieStill self.old.hdus self.new.hdus }
+        ensures told { (told : List ℕ) → IsTold H.whole told log.new self.old.hdus
+            → IsTold H.whole told log.new self.new.hdus }
+        ensures seen { All IsSeen self.old.hdus → All IsSeen self.new.hdus }
         ensures whole { H.whole ≡ true → IsOk result }
         ensures reads { reads_of self.new.hdus ≡ reads_of self.old.hdus }
         ensures work { WorksOnly h (LoadWork (file_of self.old) h)
@@ -90,16 +153,20 @@ impl<H: Holder + Drop> Session<H> {
     pub fn load_pixels(&mut self, h: usize, log: &mut ReadLog) -> Result<(), LoadFault>
         ensures held { OnOk result (IsSoOf HasPixels h self.new.hdus) }
         ensures wanted { OnErr result (IsOk (kind_in (file_of self.old) h)) }
-        ensures same { Agree H.whole log.new self.old.hdus → OnOk result (marked_of self.new ≡ marked_of self.old) }
+        ensures same { (told : List ℕ) → IsTold H.whole told log.new self.old.hdus
+            → OnOk result (marked_of (session_at told self.new) ≡ marked_of (session_at told self.old)) }
         ensures alone { LoadsAt h self.old self.new }
         ensures idle { IsSoOf HasPixels h self.old.hdus → self.new ≡ self.old }
         ensures at_once { IsSoOf HasPixels h self.old.hdus → IsOk result }
         ensures quiet { OnOk result (log.new.failures ≡ log.old.failures) }
         ensures err { OnErr result (self.new ≡ self.old) }
         ensures counted { IfErr result (LoadCounts log.old.failures log.new.failures) }
-        ensures unchanged { Agree H.whole log.new self.old.hdus → IfErr result (λ why. why ≡ LoadFault.Changed → ⊥) }
+        ensures unchanged { (told : List ℕ) → IsTold H.whole told log.new self.old.hdus
+            → IfErr result (λ why. why ≡ LoadFault.Changed → ⊥) }
         ensures follows { Follows log.old log.new }
-        ensures stays { LieStill self.old.hdus self.new.hdus }
+        ensures told { (told : List ℕ) → IsTold H.whole told log.new self.old.hdus
+            → IsTold H.whole told log.new self.new.hdus }
+        ensures seen { All IsSeen self.old.hdus → All IsSeen self.new.hdus }
         ensures whole { H.whole ≡ true → IsOk result }
     {
         if self.is_image(h) {
@@ -112,16 +179,20 @@ impl<H: Holder + Drop> Session<H> {
     fn load_array(&mut self, h: usize, log: &mut ReadLog) -> Result<(), LoadFault>
         ensures held { OnOk result (IsSoOf HasArray h self.new.hdus) }
         ensures wanted { OnErr result (IsOk (array_in (file_of self.old) h)) }
-        ensures same { Agree H.whole log.new self.old.hdus → OnOk result (marked_of self.new ≡ marked_of self.old) }
+        ensures same { (told : List ℕ) → IsTold H.whole told log.new self.old.hdus
+            → OnOk result (marked_of (session_at told self.new) ≡ marked_of (session_at told self.old)) }
         ensures alone { LoadsAt h self.old self.new }
         ensures idle { IsSoOf HasArray h self.old.hdus → self.new ≡ self.old }
         ensures at_once { IsSoOf HasArray h self.old.hdus → IsOk result }
         ensures quiet { OnOk result (log.new.failures ≡ log.old.failures) }
         ensures err { OnErr result (self.new ≡ self.old) }
         ensures counted { IfErr result (LoadCounts log.old.failures log.new.failures) }
-        ensures unchanged { Agree H.whole log.new self.old.hdus → IfErr result (λ why. why ≡ LoadFault.Changed → ⊥) }
+        ensures unchanged { (told : List ℕ) → IsTold H.whole told log.new self.old.hdus
+            → IfErr result (λ why. why ≡ LoadFault.Changed → ⊥) }
         ensures follows { Follows log.old log.new }
-        ensures stays { LieStill self.old.hdus self.new.hdus }
+        ensures told { (told : List ℕ) → IsTold H.whole told log.new self.old.hdus
+            → IsTold H.whole told log.new self.new.hdus }
+        ensures seen { All IsSeen self.old.hdus → All IsSeen self.new.hdus }
         ensures whole { H.whole ≡ true → IsOk result }
     {
         if self.is_array(h) {
@@ -130,21 +201,25 @@ impl<H: Holder + Drop> Session<H> {
         Ok(())
     }
 
-    /// Has the pixels that an edit wants in memory, as `load`.
+    /// Has the data that an edit wants in memory, as `load`, or known, as `know`.
     pub fn load_for(&mut self, edit: &Edit, log: &mut ReadLog) -> Result<(), LoadFault>
         ensures ready { OnOk result (IsReadyFor edit.now self.new.hdus) }
-        ensures needed { OnErr result (NeedsPixels edit.now) }
-        ensures wanted { OnErr result (EditWantsPixels (file_of self.old) edit.now) }
-        ensures same { Agree H.whole log.new self.old.hdus → OnOk result (marked_of self.new ≡ marked_of self.old) }
+        ensures needed { OnErr result (NeedsData edit.now) }
+        ensures wanted { OnErr result (EditWantsData (file_of self.old) edit.now) }
+        ensures same { (told : List ℕ) → IsTold H.whole told log.new self.old.hdus
+            → OnOk result (marked_of (session_at told self.new) ≡ marked_of (session_at told self.old)) }
         ensures alone { LoadsFor edit.now self.old self.new }
         ensures idle { IsReadyFor edit.now self.old.hdus → self.new ≡ self.old }
         ensures at_once { IsReadyFor edit.now self.old.hdus → IsOk result }
         ensures quiet { OnOk result (log.new.failures ≡ log.old.failures) }
         ensures err { OnErr result (self.new ≡ self.old) }
         ensures counted { IfErr result (LoadCounts log.old.failures log.new.failures) }
-        ensures unchanged { Agree H.whole log.new self.old.hdus → IfErr result (λ why. why ≡ LoadFault.Changed → ⊥) }
+        ensures unchanged { (told : List ℕ) → IsTold H.whole told log.new self.old.hdus
+            → IfErr result (λ why. why ≡ LoadFault.Changed → ⊥) }
         ensures follows { Follows log.old log.new }
-        ensures stays { LieStill self.old.hdus self.new.hdus }
+        ensures told { (told : List ℕ) → IsTold H.whole told log.new self.old.hdus
+            → IsTold H.whole told log.new self.new.hdus }
+        ensures seen { All IsSeen self.old.hdus → All IsSeen self.new.hdus }
         ensures whole { H.whole ≡ true → IsOk result }
     {
         match edit {
@@ -156,31 +231,45 @@ impl<H: Holder + Drop> Session<H> {
                 hdu,
                 edit: HduEdit::Reshape { .. },
             } => self.load_array(*hdu, log),
+            Edit::Hdu {
+                hdu,
+                edit: HduEdit::Stamp | HduEdit::Keep,
+            } => self.know(*hdu, log),
             _ => Ok(()),
         }
     }
 
-    /// Has the statistics of HDU h known, if it is there and an image of integers: where BLANK names
-    /// another number than it did as its data unit passed by, that is loaded.
+    /// Has the statistics of HDU h known, if it is there and an image of integers: where its data unit
+    /// is unread it passes by, and where BLANK names another number than it did then, it is loaded.
     pub fn load_counts(&mut self, h: usize, log: &mut ReadLog) -> Result<(), LoadFault>
         ensures known { OnOk result (IsSoOf HasStats h self.new.hdus) }
         ensures wanted { OnErr result (IsOk (kind_in (file_of self.old) h)) }
-        ensures same { Agree H.whole log.new self.old.hdus → OnOk result (marked_of self.new ≡ marked_of self.old) }
+        ensures same { (told : List ℕ) → IsTold H.whole told log.new self.old.hdus
+            → OnOk result (marked_of (session_at told self.new) ≡ marked_of (session_at told self.old)) }
         ensures alone { LoadsAt h self.old self.new }
         ensures idle { IsSoOf HasStats h self.old.hdus → self.new ≡ self.old }
         ensures at_once { IsSoOf HasStats h self.old.hdus → IsOk result }
         ensures quiet { OnOk result (log.new.failures ≡ log.old.failures) }
         ensures err { OnErr result (self.new ≡ self.old) }
         ensures counted { IfErr result (LoadCounts log.old.failures log.new.failures) }
-        ensures unchanged { Agree H.whole log.new self.old.hdus → IfErr result (λ why. why ≡ LoadFault.Changed → ⊥) }
+        ensures unchanged { (told : List ℕ) → IsTold H.whole told log.new self.old.hdus
+            → IfErr result (λ why. why ≡ LoadFault.Changed → ⊥) }
         ensures follows { Follows log.old log.new }
-        ensures stays { LieStill self.old.hdus self.new.hdus }
+        ensures told { (told : List ℕ) → IsTold H.whole told log.new self.old.hdus
+            → IsTold H.whole told log.new self.new.hdus }
+        ensures seen { All IsSeen self.old.hdus → All IsSeen self.new.hdus }
         ensures whole { H.whole ≡ true → IsOk result }
     {
+        if !self.is_image(h) {
+            return Ok(());
+        }
         if self.has_counts(h) {
             return Ok(());
         }
-        self.load_pixels(h, log)
+        if self.is_unread(h) {
+            return self.know(h, log);
+        }
+        self.load(h, log)
     }
 
     // Whether HDU h is there and an image of integers.
@@ -192,6 +281,16 @@ impl<H: Holder + Drop> Session<H> {
     {
         match index_of(&self.hdus, h) {
             Ok(i) => self.hdus[i].kind().is_some(),
+            Err(_) => false,
+        }
+    }
+
+    // Whether HDU h is there and its data unit unread.
+    fn is_unread(&self, h: usize) -> bool
+        ensures { result ≡ true → IsSoOf IsSeen h self.now.hdus → ⊥ }
+    {
+        match index_of(&self.hdus, h) {
+            Ok(i) => !self.hdus[i].is_known(),
             Err(_) => false,
         }
     }
@@ -220,4 +319,30 @@ impl<H: Holder + Drop> Session<H> {
             Err(_) => true,
         }
     }
+}
+
+// Has the data unit of each HDU known, one after another.
+fn know_each<H: Holder + Drop>(session: &mut Session<H>, log: &mut ReadLog) -> Result<(), LoadFault>
+    ensures known { OnOk result (All IsSeen session.new.hdus) }
+    ensures same { (told : List ℕ) → IsTold H.whole told log.new session.old.hdus
+        → marked_of (session_at told session.new) ≡ marked_of (session_at told session.old) }
+    ensures each { LoadsAll session.old session.new }
+    ensures idle { All IsSeen session.old.hdus → session.new ≡ session.old }
+    ensures at_once { All IsSeen session.old.hdus → IsOk result }
+    ensures quiet { OnOk result (log.new.failures ≡ log.old.failures) }
+    ensures counted { IfErr result (LoadCounts log.old.failures log.new.failures) }
+    ensures unchanged { (told : List ℕ) → IsTold H.whole told log.new session.old.hdus
+        → IfErr result (λ why. why ≡ LoadFault.Changed → ⊥) }
+    ensures follows { Follows log.old log.new }
+    ensures told { (told : List ℕ) → IsTold H.whole told log.new session.old.hdus
+        → IsTold H.whole told log.new session.new.hdus }
+    ensures seen { All IsSeen session.old.hdus → All IsSeen session.new.hdus }
+    ensures whole { H.whole ≡ true → IsOk result }
+    ensures reads { reads_of session.new.hdus ≡ reads_of session.old.hdus }
+{
+    let count = session.hdus();
+    for i in 0..count {
+        session.know(i + 1, log)?;
+    }
+    Ok(())
 }

@@ -4,7 +4,7 @@ ghost use Rattle.fits_hdu.specs.State.{IsDescribed};
 ghost use Rattle.fits_passing.specs.Work.{name_reads};
 ghost use Rattle.fits_hdu.specs.Work.{IsOpened};
 ghost use Rattle.fits_session.specs.NameTable.{mended, Leaves, Stands, Stood};
-ghost use Rattle.fits_session.specs.Session.{hdus_of, kept_of, reads_of, without_entries, works_of, ReadsOnly};
+ghost use Rattle.fits_session.specs.Session.{absences_of, hdus_of, kept_of, reads_of, without_entries, works_of, ReadsOnly};
 ghost use Rattle.fits_making.specs.Making.{Holding, IsHad};
 
 use crate::name_table::NameTable;
@@ -19,6 +19,7 @@ pub(crate) fn name_all(alloc: Global, hdus: &mut Vec<Hdu>) -> Result<NameTable, 
     ensures room { IfOk result (λ table. table.room ≡ length hdus.new.items + 1) }
     ensures described { OnOk result (All IsDescribed hdus.new.items) }
     ensures hdus { OnOk result (hdus_of hdus.new.items ≡ hdus_of hdus.old.items) }
+    ensures absences { OnOk result (absences_of hdus.new.items ≡ absences_of hdus.old.items) }
     ensures opened { All (IsOpened 0) hdus.old.items
         → OnOk result (All (IsOpened name_reads) hdus.new.items) }
     ensures had { (holding : Holding) → All (IsHad holding) hdus.old.items
@@ -49,6 +50,7 @@ pub(crate) fn follow(hdus: &mut Vec<Hdu>, table: &mut NameTable, i: usize)
         (reads_of hdus.old.items) (reads_of hdus.new.items) }
     ensures works { works_of hdus.new.items ≡ works_of hdus.old.items }
     ensures kept { kept_of hdus.new.items ≡ kept_of hdus.old.items }
+    ensures absences { absences_of hdus.new.items ≡ absences_of hdus.old.items }
     ensures had { (holding : Holding) → All (IsHad holding) hdus.old.items
         → All (IsHad holding) hdus.new.items }
 {

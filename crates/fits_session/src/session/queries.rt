@@ -1,9 +1,9 @@
 //! What a session answers. Queries leave the file as it is.
-ghost use Rattle.std.specs.Prelude.{◌≡◌, ◌≤◌, ◌+◌, length, IfOk};
+ghost use Rattle.std.specs.Prelude.{◌≡◌, ◌≤◌, ◌+◌, length, All, IfOk};
 ghost use Rattle.fits_passing.specs.File.{joined_hdus, offsets_from};
 ghost use Rattle.fits_passing.specs.declared.limits.TheConstants.{FILE_LIMIT};
 ghost use Rattle.fits_passing.specs.Report.{counts_in, names_from, wrong_from};
-ghost use Rattle.fits_session.specs.Session.{hdus_of, AreNamed};
+ghost use Rattle.fits_session.specs.Session.{hdus_of, AreNamed, IsSeen};
 
 use super::Session;
 use super::finding::index_of;
@@ -22,7 +22,7 @@ use fits_value::{Text, Value};
 use std::alloc::{AllocError, Global};
 
 impl<H: Holder + Drop> Session<H> {
-    ghost use Rattle.std.specs.Prelude.{◌≡◌, ◌<◌, ◌^◌, true, length, IfOk, IfErr, OnOk, OnErr, None, Ok};
+    ghost use Rattle.std.specs.Prelude.{◌≡◌, ◌<◌, ◌^◌, true, length, All, IfOk, IfErr, OnOk, OnErr, None, Ok};
     ghost use Rattle.fits_plane.specs.Rectangle.{rectangle_size};
     ghost use Rattle.fits_session.specs.Away.{LieStill};
     ghost use Rattle.fits_session.specs.Edit.{hdu_of};
@@ -31,7 +31,7 @@ impl<H: Holder + Drop> Session<H> {
     ghost use Rattle.fits_session.specs.Marked.{kept_in};
     ghost use Rattle.fits_session.specs.Query.{card_count_in, card_in, datasum_in, kind_in, names_in, positions_in, rect_in, shape_in, stats_in, value_in, verdicts_in, PlacesFail, QueryFails};
     ghost use Rattle.fits_passing.specs.Report.{counts_in, report_of};
-    ghost use Rattle.fits_session.specs.Session.{file_of, marked_of, Asks, AsksPixels, HasPixels, HasStats, IsSoOf};
+    ghost use Rattle.fits_session.specs.Session.{file_of, marked_of, Asks, AsksPixels, HasPixels, HasStats, IsSeen, IsSoOf};
     ghost use Rattle.fits_session.specs.Work.{value_reads};
 
     /// How many HDUs there are.
@@ -82,9 +82,9 @@ impl<H: Holder + Drop> Session<H> {
         hdu.kind().ok_or(Refusal::NotImage)
     }
 
-    /// The sum of the data unit of HDU h, with its fill (FITS Standard 4.0, Appendix J). Refusal 1.
-    /// It takes no memory, and reads nothing.
-    pub fn datasum(&self, h: usize) -> Result<u32, Refusal>
+    /// The sum of the data unit of HDU h, as `datasum`. It is known: `know` sees to it.
+    pub fn known_datasum(&self, h: usize) -> Result<u32, Refusal>
+        requires { IsSoOf IsSeen h self.now.hdus }
         ensures { result ≡ datasum_in (file_of self.now) h }
     {
         let i = index_of(&self.hdus, h)?;
@@ -92,9 +92,9 @@ impl<H: Holder + Drop> Session<H> {
         Ok(hdu.datasum())
     }
 
-    /// Whether the sums of HDU h are right (FITS Standard 4.0, section 4.4.2.7). Refusal 1. It takes
-    /// no memory, and reads nothing.
-    pub fn verdicts(&self, h: usize) -> Result<Verdicts, Refusal>
+    /// Whether the sums of HDU h are right, as `verdicts`. Its data unit is known: `know` sees to it.
+    pub fn known_verdicts(&self, h: usize) -> Result<Verdicts, Refusal>
+        requires { IsSoOf IsSeen h self.now.hdus }
         ensures { result ≡ verdicts_in (file_of self.now) h }
     {
         let i = index_of(&self.hdus, h)?;
@@ -111,6 +111,9 @@ impl<H: Holder + Drop> Session<H> {
     {
         let i = index_of(&self.hdus, h)?;
         let hdu = &self.hdus[i];
+        if !hdu.kept() {
+            return Ok(false);
+        }
         let verdicts = hdu.verdicts();
         Ok(is_kept(hdu.kept(), verdicts))
     }
@@ -154,8 +157,9 @@ impl<H: Holder + Drop> Session<H> {
         Ok(names)
     }
 
-    /// What is wrong: by HDU, by place, by the number of the code. No card is read.
-    pub fn report(&mut self) -> Result<Vec<Problem>, AllocError>
+    /// What is wrong, as `report`. All data units are known: `know_all` sees to it.
+    pub fn known_report(&mut self) -> Result<Vec<Problem>, AllocError>
+        requires { All IsSeen self.old.hdus }
         ensures value { IfOk result (λ report. report.items ≡ report_of (file_of self.old)) }
         ensures same { self.new ≡ self.old }
     {
@@ -164,8 +168,10 @@ impl<H: Holder + Drop> Session<H> {
         Ok(report)
     }
 
-    /// How many errors and warnings the report has. It takes no memory, and reads no card.
-    pub fn counts(&mut self) -> Counts
+    /// How many errors and warnings the report has, as `counts`. All data units are known: `know_all`
+    /// sees to it.
+    pub fn known_counts(&mut self) -> Counts
+        requires { All IsSeen self.old.hdus }
         ensures value { result ≡ counts_in (report_of (file_of self.old)) }
         ensures same { self.new ≡ self.old }
     {
@@ -215,8 +221,45 @@ impl<H: Holder + Drop> Session<H> {
 impl Session {
     ghost use Rattle.std.specs.Prelude.{◌≡◌, IfOk, IfErr, OnOk, OnErr, Ok};
     ghost use Rattle.fits_plane.specs.Rectangle.{rectangle_size};
-    ghost use Rattle.fits_session.specs.Query.{rect_in, stats_in, QueryFails};
+    ghost use Rattle.fits_passing.specs.Report.{counts_in, report_of};
+    ghost use Rattle.fits_session.specs.Query.{datasum_in, rect_in, stats_in, verdicts_in, QueryFails};
     ghost use Rattle.fits_session.specs.Session.{file_of, AsksPixels};
+
+    /// The sum of the data unit of HDU h, with its fill (FITS Standard 4.0, Appendix J). Refusal 1.
+    /// It takes no memory, and reads nothing.
+    pub fn datasum(&self, h: usize) -> Result<u32, Refusal>
+        ensures { result ≡ datasum_in (file_of self.now) h }
+    {
+        self.are_held();
+        self.known_datasum(h)
+    }
+
+    /// Whether the sums of HDU h are right (FITS Standard 4.0, section 4.4.2.7). Refusal 1. It takes
+    /// no memory, and reads nothing.
+    pub fn verdicts(&self, h: usize) -> Result<Verdicts, Refusal>
+        ensures { result ≡ verdicts_in (file_of self.now) h }
+    {
+        self.are_held();
+        self.known_verdicts(h)
+    }
+
+    /// What is wrong: by HDU, by place, by the number of the code. No card is read.
+    pub fn report(&mut self) -> Result<Vec<Problem>, AllocError>
+        ensures value { IfOk result (λ report. report.items ≡ report_of (file_of self.old)) }
+        ensures same { self.new ≡ self.old }
+    {
+        self.are_held();
+        self.known_report()
+    }
+
+    /// How many errors and warnings the report has. It takes no memory, and reads no card.
+    pub fn counts(&mut self) -> Counts
+        ensures value { result ≡ counts_in (report_of (file_of self.old)) }
+        ensures same { self.new ≡ self.old }
+    {
+        self.are_held();
+        self.known_counts()
+    }
 
     /// The statistics of the pixels of HDU h. Refusals 1 and 9. It takes no memory, and reads
     /// nothing.
@@ -248,7 +291,8 @@ fn problems(
     hdus: &mut Vec<Hdu>,
     names: &NameTable,
 ) -> Result<Vec<Problem>, AllocError>
-    requires { AreNamed hdus.old.items names.now.numbers.items }
+    requires seen { All IsSeen hdus.old.items }
+    requires named { AreNamed hdus.old.items names.now.numbers.items }
     ensures value { IfOk result (λ report. report.items
         ≡ wrong_from (names_from 1 (hdus_of hdus.old.items)) 1 (hdus_of hdus.old.items)) }
     ensures same { hdus.new.items ≡ hdus.old.items }
@@ -266,7 +310,8 @@ fn problems(
 
 // How many errors and warnings that is.
 fn counts_of(hdus: &mut Vec<Hdu>, names: &NameTable) -> Counts
-    requires { AreNamed hdus.old.items names.now.numbers.items }
+    requires seen { All IsSeen hdus.old.items }
+    requires named { AreNamed hdus.old.items names.now.numbers.items }
     ensures value { result ≡ counts_in
         (wrong_from (names_from 1 (hdus_of hdus.old.items)) 1 (hdus_of hdus.old.items)) }
     ensures few { result.errors + result.warnings ≤ FILE_LIMIT }

@@ -1,10 +1,10 @@
 //! HDUs whose sums vouch for them: each edit of one is followed by a stamp from now on.
-ghost use Rattle.std.specs.Prelude.{◌≡◌, ◌≤◌, ◌^◌, ◌&&◌, length, map};
+ghost use Rattle.std.specs.Prelude.{◌≡◌, ◌≤◌, ◌^◌, ◌&&◌, length, map, All};
 ghost use Rattle.fits_passing.specs.Hdu.{hdu_bytes};
 ghost use Rattle.fits_hdu.specs.State.{parts_of};
 ghost use Rattle.fits_passing.specs.File.{joined_hdus};
 ghost use Rattle.fits_making.specs.Keeping.{are_right, is_right, vouch, vouched_one};
-ghost use Rattle.fits_session.specs.Session.{hdus_of};
+ghost use Rattle.fits_session.specs.Session.{hdus_of, IsSeen};
 ghost use Rattle.fits_passing.specs.declared.limits.TheConstants.{FILE_LIMIT};
 
 use super::Session;
@@ -12,15 +12,17 @@ use crate::holder::Holder;
 use fits_hdu::{Hdu, Verdict, Verdicts};
 
 impl<H: Holder + Drop> Session<H> {
-    ghost use Rattle.std.specs.Prelude.{◌≡◌, map};
+    ghost use Rattle.std.specs.Prelude.{◌≡◌, map, All};
     ghost use Rattle.fits_making.specs.Keeping.{vouched_one};
     ghost use Rattle.fits_session.specs.Away.{LieStill};
     ghost use Rattle.fits_session.specs.Marked.{vouched};
-    ghost use Rattle.fits_session.specs.Session.{file_of, marked_of, state_of};
+    ghost use Rattle.fits_session.specs.Session.{file_of, marked_of, state_of, IsSeen};
 
     /// Marks each HDU whose CHECKSUM is right and whose DATASUM isn't wrong, and no other: from now
-    /// on it is stamped after each edit, as one that is kept. No byte changes, and nothing is read.
+    /// on it is stamped after each edit, as one that is kept. No byte changes, and nothing is read: all
+    /// data units are known.
     pub fn keep_right(&mut self)
+        requires { All IsSeen self.old.hdus }
         ensures marks { marked_of self.new ≡ vouched (file_of self.old) }
         ensures rest { self.new ≡ state_of (map vouched_one self.old.hdus) self.old.tail }
         ensures stays { LieStill self.old.hdus self.new.hdus }
@@ -31,7 +33,8 @@ impl<H: Holder + Drop> Session<H> {
 
 // The same of HDUs, one after another.
 fn mark_all(hdus: &mut Vec<Hdu>)
-    requires { length (joined_hdus (hdus_of hdus.old.items)) ≤ FILE_LIMIT }
+    requires seen { All IsSeen hdus.old.items }
+    requires few { length (joined_hdus (hdus_of hdus.old.items)) ≤ FILE_LIMIT }
     ensures { hdus.new.items ≡ map vouched_one hdus.old.items }
 {
     for i in 0..hdus.len() {
@@ -42,7 +45,8 @@ fn mark_all(hdus: &mut Vec<Hdu>)
 
 // The same of one.
 fn mark(hdu: &mut Hdu)
-    requires { length (hdu_bytes (parts_of hdu.old)) ≤ 2 ^ 34 }
+    requires seen { IsSeen hdu.old }
+    requires small { length (hdu_bytes (parts_of hdu.old)) ≤ 2 ^ 34 }
     ensures { hdu.new ≡ vouched_one hdu.old }
 {
     let verdicts = hdu.verdicts();

@@ -1,8 +1,11 @@
-//! What a data unit keeps: a plane, and of one that isn't in memory what is known of it, and its place.
+//! What a data unit keeps: a plane, and of one that isn't in memory what is known of it, if its bytes
+//! passed by, and its place.
 
 use super::DataUnit;
 use crate::absent::Absent;
+use crate::away_unit::AwayUnit;
 use crate::passed_unit::PassedUnit;
+use crate::unread_unit::UnreadUnit;
 use fits_plane::Plane;
 
 /// Takes a data unit apart, and nothing calls it: each field has the type that is written here, and
@@ -12,6 +15,13 @@ fn apart(unit: DataUnit, away: Absent) {
     let _plane: Plane = plane;
     let _absent: Option<Absent> = absent;
     let Absent { unit, place } = away;
-    let _unit: PassedUnit = unit;
+    match unit {
+        AwayUnit::Passed(unit) => {
+            let _unit: PassedUnit = unit;
+        }
+        AwayUnit::Unread(unit) => {
+            let _unit: UnreadUnit = unit;
+        }
+    }
     let _place: u64 = place;
 }

@@ -1,29 +1,30 @@
 use Rattle.std.proofs.Common.{inl, refl}
+use Rattle.fits_cli.specs.Running.{standing_at, standing_over, guarded_by}
 use Rattle.fits_cli.proofs.EditingLemmas.{RemarksBy-answered, remarks_exit}
 use Rattle.fits_cli.proofs.EndingLemmas.{ends_exit}
-use Rattle.fits_cli.proofs.UnderWayLemmas.{follows_more, steady_before}
+use Rattle.fits_cli.proofs.UnderWayLemmas.{follows_more, told_before}
 use Rattle.fits_cli.proofs.FrameLemmas.{leaves_answered, leaves_exit, leaves_stopped}
 use Rattle.fits_cli.specs.Reports.{read_reports}
 use Rattle.fits_cli.proofs.editing.run.Goals as goal
 
-pub save_result-requires : goal.save_result-requires
-save_result-requires g c = c.in_ok-before.ensures.ordered
+pub save_result-requires-clause-ordered : goal.save_result-requires-clause-ordered
+save_result-requires-clause-ordered g c = c.in_ok-before.ensures.ordered
 
 -- the script isn't answered to its end
 pub returns-in_err-before-clause-ends : goal.returns-in_err-before-clause-ends
-returns-in_err-before-clause-ends g c steady parts first file after opened quiet = ends_exit _ _ _ _ _ _ c.from_residual.ensures.1 (inl (c.in_err-before.ensures.err steady parts first file after opened quiet, refl))
+returns-in_err-before-clause-ends g c bytes by parts first file after opened quiet = ends_exit _ _ _ _ _ _ c.from_residual.ensures.1 (inl (c.in_err-before.ensures.err bytes by parts first file after opened quiet, refl))
 
 pub returns-in_err-before-clause-told : goal.returns-in_err-before-clause-told
-returns-in_err-before-clause-told g c steady parts first file after opened quiet = remarks_exit _ _ _ _ _ _ _ _ _ c.from_residual.ensures.1 (c.in_err-before.ensures.told steady parts first file after opened quiet)
+returns-in_err-before-clause-told g c bytes by parts first file after opened quiet = remarks_exit _ _ _ _ _ _ _ _ _ c.from_residual.ensures.1 (c.in_err-before.ensures.told bytes by parts first file after opened quiet)
 
 -- it is
 pub returns-clause-ends : goal.returns-clause-ends
-returns-clause-ends g c steady parts first file after opened quiet =
-    c.save_result.ensures.ends steady file after _ _ _ _ _ (c.in_ok-before.ensures.ok (steady_before g.H.Holder.whole _ _ c.save_result.ensures.follows steady) parts first file after opened quiet)
+returns-clause-ends g c bytes by parts first file after opened quiet =
+    c.save_result.ensures.ends bytes by file after _ _ _ _ _ (c.in_ok-before.ensures.ok bytes (told_before g.H.Holder.whole bytes _ _ c.save_result.ensures.follows by) parts first file after opened quiet)
 
 pub returns-clause-told : goal.returns-clause-told
-returns-clause-told g c steady parts first file after opened quiet =
-    RemarksBy-answered _ _ _ _ c.answered.new.runner.standing (read_reports c.in_ok-before.before) c.save_result.result (c.in_ok-before.ensures.ok (steady_before g.H.Holder.whole _ _ c.save_result.ensures.follows steady) parts first file after opened quiet)
+returns-clause-told g c bytes by parts first file after opened quiet =
+    RemarksBy-answered _ _ _ _ (standing_at bytes c.answered.new.runner) (read_reports c.in_ok-before.before) c.save_result.result (c.in_ok-before.ensures.ok bytes (told_before g.H.Holder.whole bytes _ _ c.save_result.ensures.follows by) parts first file after opened quiet)
 
 pub returns-clause-follows : goal.returns-clause-follows
 returns-clause-follows g c = follows_more _ _ _ c.in_ok-before.ensures.follows c.save_result.ensures.follows
@@ -34,5 +35,5 @@ returns-in_err-before-clause-leaves g c = leaves_exit _ _ _ _ _ _ _ _ _ c.from_r
 
 pub returns-clause-leaves : goal.returns-clause-leaves
 returns-clause-leaves g c =
-    leaves_answered c.args.terms _ _ _ _ _ _ _ c.save_result.new.runner.standing c.save_result.result (c.in_ok-before.ensures.said, c.in_ok-before.ensures.flushed)
+    leaves_answered c.args.terms _ _ _ _ _ _ _ (standing_over c.answered.new.runner (guarded_by c.answered.new.runner c.answered.new.runner.session)) c.save_result.result (c.in_ok-before.ensures.said, c.in_ok-before.ensures.flushed)
     c.save_result.ensures.said c.save_result.ensures.flushed c.save_result.ensures.like c.save_result.ensures.leaves

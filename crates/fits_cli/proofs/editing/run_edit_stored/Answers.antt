@@ -7,17 +7,17 @@ use Rattle.fits_cli.proofs.FrameLemmas.{leaves_unread}
 use Rattle.fits_cli.proofs.editing.run_edit_stored.Goals as goal
 
 pub edit-requires-clause-lie : goal.edit-requires-clause-lie
-edit-requires-clause-lie g c = λ bytes is. rw (c.in-Ok.ensures.of bytes is) c.in-Ok.ensures.lie
+edit-requires-clause-lie g c = λ bytes is. c.in-Ok.ensures.lie bytes is
 
 pub returns-in-Ok-clause-ends : goal.returns-in-Ok-clause-ends
 returns-in-Ok-clause-ends g c bytes is =
-    c.edit.ensures.ends (λ lies. (bytes, is)) (stored_file bytes c.args.log.now) (stored_file bytes c.edit.new.log)
-    (opened_of bytes c.args.log.now c.edit.new.log _ c.in-Ok.ensures.ok (c.in-Ok.ensures.of bytes (c.edit.ensures.follows bytes is))) (inl refl)
+    c.edit.ensures.ends bytes (λ away. is) (stored_file bytes c.args.log.now) (stored_file bytes c.edit.new.log)
+    (opened_of bytes c.args.log.now c.edit.new.log _ (c.in-Ok.ensures.ok bytes (c.edit.ensures.follows bytes is))) (inl refl)
 
 pub returns-in-Ok-clause-told : goal.returns-in-Ok-clause-told
 returns-in-Ok-clause-told g c bytes is =
-    c.edit.ensures.told (λ lies. (bytes, is)) (stored_file bytes c.args.log.now) (stored_file bytes c.edit.new.log)
-    (opened_of bytes c.args.log.now c.edit.new.log _ c.in-Ok.ensures.ok (c.in-Ok.ensures.of bytes (c.edit.ensures.follows bytes is))) (inl refl)
+    c.edit.ensures.told bytes (λ away. is) (stored_file bytes c.args.log.now) (stored_file bytes c.edit.new.log)
+    (opened_of bytes c.args.log.now c.edit.new.log _ (c.in-Ok.ensures.ok bytes (c.edit.ensures.follows bytes is))) (inl refl)
 
 pub returns-in-Err-clause-ends : goal.returns-in-Err-clause-ends
 returns-in-Err-clause-ends g c bytes is =

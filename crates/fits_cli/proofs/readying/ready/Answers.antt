@@ -1,5 +1,6 @@
 use Rattle.std.proofs.Common.{refl}
-use Rattle.fits_cli.proofs.UnderWayLemmas.{like_same, loaded_at, loaded_for}
+use Rattle.fits_cli.specs.Answer.{IsReady}
+use Rattle.fits_cli.proofs.UnderWayLemmas.{like_same, loaded_all, loaded_at, loaded_for, ok_anyhow}
 use Rattle.fits_cli.proofs.readying.ready.Goals as goal
 
 pub returns-in-Edit-clause-like : goal.returns-in-Edit-clause-like
@@ -11,5 +12,18 @@ returns-in-Statistics-clause-like g c = loaded_at _ _ _ c.load_counts.ensures.al
 pub returns-in-Rectangle-clause-like : goal.returns-in-Rectangle-clause-like
 returns-in-Rectangle-clause-like g c = loaded_at _ _ _ c.load_pixels.ensures.alone
 
+pub returns-in-Sums-clause-like : goal.returns-in-Sums-clause-like
+returns-in-Sums-clause-like g c = loaded_at _ _ _ c.know.ensures.alone
+
+pub returns-in-Report-clause-like : goal.returns-in-Report-clause-like
+returns-in-Report-clause-like g c = loaded_all _ _ c.know_all.ensures.each
+
+pub returns-in-Report-clause-same : goal.returns-in-Report-clause-same
+returns-in-Report-clause-same g c = λ told all. ok_anyhow c.know_all.result (c.know_all.ensures.same told all)
+
 pub returns-in_default-clause-like : goal.returns-in_default-clause-like
 returns-in_default-clause-like g c = like_same _ _ refl
+
+pub returns-in-Rectangle-clause-idle : goal.returns-in-Rectangle-clause-idle
+unfolding IsReady
+returns-in-Rectangle-clause-idle g c = λ ready. c.load_pixels.ensures.idle (rw c.in-Rectangle.is at ready)

@@ -1,7 +1,8 @@
 use Rattle.std.proofs.Common.{◌≡◌, ◌++◌, ◌∷◌, [], ◌∙◌, length, ap, sym, append_assoc, refl, arith}
 use Rattle.std.proofs.lemmas.List.{length-append}
 use Rattle.fits_tell.proofs.ExitLemmas.{at_exit}
-use Rattle.fits_cli.proofs.UnderWayLemmas.{follows_more, follows_none, steady_before}
+use Rattle.fits_cli.specs.Running.{standing_at}
+use Rattle.fits_cli.proofs.UnderWayLemmas.{follows_more, follows_none, told_before}
 use Rattle.fits_cli.proofs.RunLemmas.{Continues-none, Continues-open, Continues-line, PieceStops-line}
 use Rattle.fits_cli.proofs.FrameLemmas.{line_more, some_more, some_none}
 use Rattle.fits_cli.proofs.script.answer_piece.Goals as goal
@@ -10,9 +11,10 @@ pub loop-front-init : goal.loop-front-init
 loop-front-init g c = record {
   done = [];
   split = refl;
-  answered = λ steady. Continues-none c.args.line.now.items c.args.runner.now.standing _;
+  answered = λ told by. Continues-none c.args.line.now.items (standing_at told c.args.runner.now) _;
   quiet = refl;
   said = some_none _;
+  look = refl;
   follows = follows_none c.args.runner.now.log;
   numbered = omega arith;
   room = c.requires.room;
@@ -20,14 +22,14 @@ loop-front-init g c = record {
 }
 
 pub returns-in_default-clause-ok : goal.returns-in_default-clause-ok
-returns-in_default-clause-ok g c steady =
+returns-in_default-clause-ok g c told by =
     let inv = c.loop-front.invariant in
     rw inv.split
-    (Continues-open inv.done c.loop-front.rest.now c.args.line.now.items c.loop-front.line.items c.keep.new.line.items c.args.runner.now.standing c.loop-front.runner.standing _ _
-    (inv.answered steady) c.in_default.ensures.none c.keep.ensures.kept)
+    (Continues-open inv.done c.loop-front.rest.now c.args.line.now.items c.loop-front.line.items c.keep.new.line.items (standing_at told c.args.runner.now) (standing_at told c.loop-front.runner) _ _
+    (inv.answered told by) c.in_default.ensures.none c.keep.ensures.kept)
 
 pub returns-in_err-answer_line-clause-err : goal.returns-in_err-answer_line-clause-err
-returns-in_err-answer_line-clause-err g c steady =
+returns-in_err-answer_line-clause-err g c told by =
     let inv = c.loop-front.invariant in
     let front = c.in-Some.front.now in
     let next = c.in-Some.next.now in
@@ -35,8 +37,8 @@ returns-in_err-answer_line-clause-err g c steady =
     let whole : c.args.piece.now ≡ inv.done ++ (front ++ 10 ∷ next) = inv.split ∙ ap (λ t. inv.done ++ t) cut in
     at_exit _ _ _ c.from_residual.ensures.1
     (rw whole
-    (PieceStops-line inv.done front next c.args.line.now.items c.loop-front.line.items c.keep-in-loop-front.new.line.items c.args.runner.now.standing c.loop-front.runner.standing _ _ _ c.in_err-answer_line.field-0.0
-    (inv.answered (steady_before g.H.Holder.whole _ _ c.answer_line.ensures.follows steady)) c.in-Some.ensures.some.0 c.keep-in-loop-front.ensures.kept (rw c.deref.ensures.value at (c.in_err-answer_line.ensures.err steady))))
+    (PieceStops-line inv.done front next c.args.line.now.items c.loop-front.line.items c.keep-in-loop-front.new.line.items (standing_at told c.args.runner.now) (standing_at told c.loop-front.runner) _ _ _ c.in_err-answer_line.field-0.0
+    (inv.answered told (told_before g.H.Holder.whole told _ _ c.answer_line.ensures.follows by)) c.in-Some.ensures.some.0 c.keep-in-loop-front.ensures.kept (rw c.deref.ensures.value at (c.in_err-answer_line.ensures.err told by))))
 
 pub loop-front-preserved : goal.loop-front-preserved
 loop-front-preserved g c =
@@ -48,11 +50,12 @@ loop-front-preserved g c =
     record {
       done = done ++ (front ++ 10 ∷ []);
       split = inv.split ∙ ap (λ t. done ++ t) (cut ∙ sym (append_assoc front (10 ∷ []) next)) ∙ sym (append_assoc done (front ++ 10 ∷ []) next);
-      answered = λ steady. rw c.clear.ensures.items
-          (Continues-line done front c.args.line.now.items c.loop-front.line.items c.keep-in-loop-front.new.line.items c.args.runner.now.standing c.loop-front.runner.standing c.answer_line.new.runner.standing _ _ _
-          (inv.answered (steady_before g.H.Holder.whole _ _ c.answer_line.ensures.follows steady)) c.in-Some.ensures.some.0 c.keep-in-loop-front.ensures.kept (rw c.deref.ensures.value at (c.in_ok-answer_line.ensures.ok steady)));
+      answered = λ told by. rw c.clear.ensures.items
+          (Continues-line done front c.args.line.now.items c.loop-front.line.items c.keep-in-loop-front.new.line.items (standing_at told c.args.runner.now) (standing_at told c.loop-front.runner) (standing_at told c.answer_line.new.runner) _ _ _
+          (inv.answered told (told_before g.H.Holder.whole told _ _ c.answer_line.ensures.follows by)) c.in-Some.ensures.some.0 c.keep-in-loop-front.ensures.kept (rw c.deref.ensures.value at (c.in_ok-answer_line.ensures.ok told by)));
       quiet = c.in_ok-answer_line.ensures.quiet ∙ inv.quiet;
       said = some_more _ _ _ inv.said c.in_ok-answer_line.ensures.said;
+      look = c.answer_line.ensures.look ∙ inv.look;
       follows = follows_more _ _ _ inv.follows c.answer_line.ensures.follows;
       numbered = omega (arith, c.in_ok-answer_line.ensures.line, ap length cut, length-append front (10 ∷ next), inv.numbered);
       room = omega (arith, c.clear.ensures.capacity, c.keep-in-loop-front.ensures.room);

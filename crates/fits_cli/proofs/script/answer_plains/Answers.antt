@@ -1,21 +1,22 @@
 use Rattle.fits_tell.proofs.ExitLemmas.{at_exit}
+use Rattle.fits_cli.specs.Running.{standing_at}
 use Rattle.fits_cli.proofs.RemarkLemmas.{said_last}
 use Rattle.fits_cli.proofs.PlainsLemmas.{StopsAs-one}
 use Rattle.fits_cli.proofs.FrameLemmas.{line_none, line_part}
 use Rattle.fits_cli.proofs.script.answer_plains.Goals as goal
 
 pub returns-clause-ok : goal.returns-clause-ok
-returns-clause-ok g c steady = record {
+returns-clause-ok g c told by = record {
   said = record {
-    printed = rw (c.line-number.ensures, (c.in_ok-reply.ensures.text steady)) at c.in_ok-print_answer.ensures.ok;
-    told = said_last g.E.Sink.state c.args.runner.now.standing.line _ _ c.is_some-wanted.result _ _ c.args.told.now _
-        c.line-number.ensures c.is_some-wanted.ensures (c.in_ok-reply.ensures.remark steady) c.say.ensures;
+    printed = rw (c.line-number.ensures, (c.in_ok-reply.ensures.text told by)) at c.in_ok-print_answer.ensures.ok;
+    told = said_last g.E.Sink.state c.args.runner.now.line _ _ c.is_some-wanted.result _ _ c.args.told.now _
+        c.line-number.ensures c.is_some-wanted.ensures (c.in_ok-reply.ensures.remark told by) c.say.ensures;
   };
-  left = (c.in_ok-reply.ensures.left steady);
+  left = (c.in_ok-reply.ensures.left told by);
 }
 
 pub returns-in_err-reply-clause-err : goal.returns-in_err-reply-clause-err
-returns-in_err-reply-clause-err g c steady = at_exit _ _ _ c.from_residual.ensures.1 (StopsAs-one _ c.args.runner.now.standing _ _ _ (c.in_err-reply.ensures.err steady))
+returns-in_err-reply-clause-err g c told by = at_exit _ _ _ c.from_residual.ensures.1 (StopsAs-one _ (standing_at told c.args.runner.now) _ _ _ (c.in_err-reply.ensures.err told by))
 
 pub returns-clause-said : goal.returns-clause-said
 returns-clause-said g c = record { text = _; printed = c.in_ok-print_answer.ensures.ok }

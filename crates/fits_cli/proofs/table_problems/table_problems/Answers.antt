@@ -3,6 +3,7 @@ use Rattle.fits_session.specs.Marked.{Marked}
 use Rattle.fits_session.specs.Query.{table_codes_in}
 use Rattle.fits_session.specs.Session.{file_of}
 use Rattle.fits_cli.specs.NewTables.{judged_count}
+use Rattle.fits_extended.proofs.StillLemmas.{still_more}
 use Rattle.fits_cli.proofs.TableProblemLemmas.{all_problems, judged_within, next_problems}
 use Rattle.fits_cli.proofs.table_problems.table_problems.Goals as goal
 
@@ -24,7 +25,8 @@ loop-i-preserved g c =
       report = next_problems (file_of c.args.session.now) c.loop-i.i c.deref.result.now c.loop-i.report.items c.push_problems.new.report.items there
           (are ∙ ap Ok (sym c.deref.ensures.value)) c.loop-i.invariant.report c.in_ok-push_problems.ensures;
       same = c.in_ok-codes.ensures.same ∙ c.loop-i.invariant.same;
-      stays = λ bytes lie. c.in_ok-codes.ensures.stays bytes (c.loop-i.invariant.stays bytes lie);
+      absences = c.codes_at.ensures.absences ∙ c.loop-i.invariant.absences;
+      stays = still_more c.loop-i.invariant.stays c.codes_at.ensures.stays;
     }
 
 -- all of them
@@ -35,7 +37,7 @@ returns-clause-value g c =
 
 -- data units lie where they lay
 pub returns-in_err-codes-clause-stays : goal.returns-in_err-codes-clause-stays
-returns-in_err-codes-clause-stays g c = λ bytes lie. c.in_err-codes.ensures.stays bytes (c.loop-i.invariant.stays bytes lie)
+returns-in_err-codes-clause-stays g c = still_more c.loop-i.invariant.stays c.codes_at.ensures.stays
 
 pub returns-in_err-push_problems-clause-stays : goal.returns-in_err-push_problems-clause-stays
-returns-in_err-push_problems-clause-stays g c = λ bytes lie. c.in_ok-codes.ensures.stays bytes (c.loop-i.invariant.stays bytes lie)
+returns-in_err-push_problems-clause-stays g c = still_more c.loop-i.invariant.stays c.codes_at.ensures.stays

@@ -1,7 +1,7 @@
 use Rattle.std.proofs.Common.{◌≡◌, ◌≤◌}
 use Rattle.fits_session.specs.Away.{LieStill}
 use Rattle.fits_session.specs.Query.{card_in}
-use Rattle.fits_session.specs.Session.{file_of, marked_of}
+use Rattle.fits_session.specs.Session.{absences_of, file_of, marked_of}
 use Rattle.fits_extended.specs.Stands.{is_blank_card, last_filled, last_without}
 use Rattle.fits_extended.proofs.adding.last_filled.Given as goal
 
@@ -11,6 +11,7 @@ invariant-places g l = record {
   within : l.place ≤ l.count;
   same : marked_of l.session ≡ marked_of l.fn.session;
   stays : LieStill l.fn.session.hdus l.session.hdus;
+  absences : absences_of l.session.hdus ≡ absences_of l.fn.session.hdus;
 }
 
 abbrev pub decreases-places : goal.decreases-places

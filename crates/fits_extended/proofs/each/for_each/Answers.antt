@@ -6,6 +6,7 @@ use Rattle.fits_session.specs.Session.{file_of}
 use Rattle.fits_extended.specs.Stands.{both, for_each, lines_in, said_in, stood, with_number}
 use Rattle.fits_extended.specs.declared.unmet.Unmet.{Unmet}
 use Rattle.fits_extended.proofs.PlainsLemmas.{both_last, both_next, both_unmet, for_each-next, for_each-none}
+use Rattle.fits_extended.proofs.StillLemmas.{still_more}
 use Rattle.fits_extended.proofs.each.for_each.Goals as goal
 
 -- what is wanted of an HDU isn't so
@@ -43,7 +44,8 @@ hdus-preserved g c =
       so_far = both_next (lines_in c.hdus.lines.items) (lines_in c.push_said.new.lines.items) (said_in file (with_number verb h rest)) (for_each file verb rest more (h + 1)) _ so_far added;
       within = omega (arith, fewer);
       same = c.said_in.ensures.same ∙ inv.same;
-      stays = λ bytes lie. c.said_in.ensures.stays bytes (inv.stays bytes lie);
+      stays = still_more inv.stays c.said_in.ensures.stays;
+      absences = c.said_in.ensures.absences ∙ inv.absences;
     }
 
 pub returns-clause-ok : goal.returns-clause-ok
@@ -55,3 +57,12 @@ returns-clause-ok g c any =
     let none : c.hdus-count.result - c.hdus.before ≡ 0 = search rules in
     let all = both_last (lines_in c.hdus.lines.items) _ _ inv.so_far (for_each-none file verb rest (c.hdus-count.result - c.hdus.before) (c.hdus.before + 1) none) in
     search (rules, all)
+
+pub returns-in_err-said-clause-stays : goal.returns-in_err-said-clause-stays
+returns-in_err-said-clause-stays g c = still_more c.hdus.invariant.stays c.said_in.ensures.stays
+
+pub returns-in_err-why-clause-stays : goal.returns-in_err-why-clause-stays
+returns-in_err-why-clause-stays g c = still_more c.hdus.invariant.stays c.said_in.ensures.stays
+
+pub returns-in-Some-clause-stays : goal.returns-in-Some-clause-stays
+returns-in-Some-clause-stays g c = still_more c.hdus.invariant.stays c.said_in.ensures.stays

@@ -2,7 +2,7 @@ use Rattle.std.proofs.Common.{◌≡◌, ◌≤◌, ◌+◌, ◌-◌}
 use Rattle.std.specs.Prelude.{Ok}
 use Rattle.std.specs.Option.{option_copied}
 use Rattle.fits_session.specs.Away.{LieStill}
-use Rattle.fits_session.specs.Session.{file_of, marked_of}
+use Rattle.fits_session.specs.Session.{absences_of, file_of, marked_of}
 use Rattle.fits_extended.specs.Stands.{both, for_each, lines_in}
 use Rattle.fits_extended.proofs.each.for_each.Given as goal
 
@@ -12,6 +12,7 @@ invariant-hdus g l = record {
   within : l.before ≤ l.count;
   same : marked_of l.session ≡ marked_of l.fn.session;
   stays : LieStill l.fn.session.hdus l.session.hdus;
+  absences : absences_of l.session.hdus ≡ absences_of l.fn.session.hdus;
 }
 
 abbrev pub decreases-hdus : goal.decreases-hdus

@@ -1,4 +1,5 @@
+use Rattle.fits_extended.proofs.StillLemmas.{still_more}
 use Rattle.fits_extended.proofs.standing_for.value_lines.Goals as goal
 
 pub returns-clause-stays : goal.returns-clause-stays
-returns-clause-stays g c = λ bytes lie. c.set_lines.ensures.stays bytes (c.said_of.ensures.stays bytes lie)
+returns-clause-stays g c = still_more c.said_of.ensures.stays c.set_lines.ensures.stays

@@ -8,6 +8,7 @@ use Rattle.fits_card.specs.Header.{header_length}
 use Rattle.fits_rules.specs.Class.{is_primary}
 use Rattle.fits_passing.specs.Hdu.{hdu_after, HduParts}
 use Rattle.fits_hdu.specs.State.{parts_of, HduState}
+use Rattle.fits_unit.specs.DataUnit.{IsKnown}
 use Rattle.fits_hdu.specs.Work.{plane_work}
 use Rattle.fits_hdu.proofs.StateLemmas.{parts_read}
 use Rattle.fits_making.specs.Keeping.{padded_if, spare_cards}
@@ -99,6 +100,14 @@ finish-requires-clause-small c =
     let left = kept_whole primary (parts_of hdu) c.args.change.now c.card_count-before.ensures.whole c.requires.inner (sym c.if-not-keeps_shape.ensures.value) in
     let is = c.apply.ensures.hdu ∙ ap (hdu_after c.args.change.now) (c.in_ok-reserve.ensures.hdu ∙ parts_read _ _ _ read) in
     makes_small hdu.kept primary c.args.len c.args.hdus (parts_of hdu) (hdu_after c.args.change.now (parts_of hdu)) (parts_of c.apply.new.self) left is within
+
+-- where it is kept its data are known
+pub finish-requires-clause-known : goal.finish-requires-clause-known
+finish-requires-clause-known c = λ on.
+    let read = c.keeps_shape.ensures.work in
+    let room = c.in_ok-reserve.ensures in
+    let stamps : is_some c.in_ok-cards.cards ≡ c.args.hdu.now.kept = c.in_ok-cards.ensures.ok ∙ read.kept in
+    subst IsKnown (sym (c.apply.ensures.absent ∙ (ap (λ (hdu : HduState). hdu.absent) room.rest ∙ read.absent))) (c.requires.known (sym stamps ∙ on))
 
 pub returns : goal.returns
 returns c =

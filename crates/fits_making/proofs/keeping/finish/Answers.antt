@@ -16,5 +16,6 @@ returns-in-Some c =
       entry = e.entry;
       kept = e.kept;
       described = e.left;
-      had = had_same c.args.hdu.now c.stamp_with.new.self e.absent (ap (λ (hdu : HduParts). hdu.data_unit) e.hdu ∙ stamped_unit (parts_of c.args.hdu.now));
+      absent = e.absent;
+      had = had_same c.args.hdu.now c.stamp_with.new.self e.absent (ap (λ (hdu : HduParts). hdu.data_unit) e.hdu ∙ stamped_unit (parts_of c.args.hdu.now)) e.kept;
     })

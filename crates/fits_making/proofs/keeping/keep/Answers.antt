@@ -8,4 +8,4 @@ returns-in_err-stamp c =
     rw (p.1, p.2) (keeps_not c.args.len c.args.hdus c.args.hdu.now c.stamp.new.hdu c.in_err-stamp.field-0.0 c.in_err-stamp.ensures)
 
 pub returns : goal.returns
-returns c = keeps c.args.len c.args.hdus c.args.hdu.now c.stamp.new.hdu c.set_kept.new.self tt c.in_ok-stamp.ensures c.set_kept.ensures
+returns c = keeps c.args.len c.args.hdus c.args.hdu.now c.stamp.new.hdu c.set_kept.new.self tt c.requires.known c.in_ok-stamp.ensures c.set_kept.ensures

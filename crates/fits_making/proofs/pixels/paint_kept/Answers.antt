@@ -82,6 +82,10 @@ finish-requires-clause-small c =
     let left = painted_hdu primary hdu.header.shape (parts_of hdu) c.args.lo.now c.args.hi.now (plane_paint c.args.paint.now) (parts_of c.paint.new.self) n.ensures.whole n.ensures.described done in
     makes_small hdu.kept primary c.args.len c.args.hdus (parts_of hdu) (parts_of c.paint.new.self) (parts_of c.paint.new.self) left.0 refl (within ∙ c.if-not-keeps_limits.false)
 
+-- its data are in memory
+pub finish-requires-clause-known : goal.finish-requires-clause-known
+finish-requires-clause-known c = λ on. rw c.in-Ok.ensures.held tt
+
 pub returns : goal.returns
 returns c =
     let hdu = c.args.hdu.now in
@@ -102,4 +106,5 @@ returns c =
     (ap (λ (state : HduState). state.entry) rest ∙ ap (λ (state : HduState). state.entry) room.rest)
     (ap (λ (state : HduState). state.kept) rest ∙ ap (λ (state : HduState). state.kept) room.rest)
     c.in-Ok.ensures.held
+    (ap (λ (state : HduState). state.absent) rest ∙ ap (λ (state : HduState). state.absent) room.rest)
     (subst (λ b. IsFinished b mid c.finish.new.hdu) stamps c.finish.ensures)

@@ -26,4 +26,5 @@ returns c =
     (ap (λ (state : HduState). state.entry) rest)
     (ap (λ (state : HduState). state.kept) rest)
     c.in_ok-paint.ensures.held
+    (ap (λ (state : HduState). state.absent) rest)
     (unstamped_finished hdu.kept new unkept (rw (ap (λ (state : HduState). state.header) rest) c.paint.ensures.described))

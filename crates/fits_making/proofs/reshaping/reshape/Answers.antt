@@ -61,6 +61,10 @@ finish-requires-clause-small c =
     let left = (reshaped_is_hdu (is_primary hdu.header.shape.class) c.args.kind c.args.axes.now hdu.header.shape (parts_of hdu) mid c.card_count-whole.ensures.whole e.described (rw c.as_slice.ensures at e.ok)).0 in
     omega (arith, hdu_long mid left.header, e.within, no_longer (length mid.header.cards) (length mid.header.cards + c.spare_cards-spare.result) (omega arith))
 
+-- its data are in memory
+pub finish-requires-clause-known : goal.finish-requires-clause-known
+finish-requires-clause-known c = λ on. rw c.in_ok-reshape.ensures.held tt
+
 pub returns : goal.returns
 returns c =
     let hdu = c.args.hdu.now in
@@ -69,7 +73,7 @@ returns c =
     let most : FILE_LIMIT - (c.args.len - c.hdu_len.result) + (c.args.len - length (hdu_bytes (parts_of hdu))) ≡ FILE_LIMIT = omega (arith, c.hdu_len.ensures, few.0) in
     let stamps : is_some c.in_ok-cards.cards ≡ hdu.kept = c.in_ok-cards.ensures.ok in
     reshapes c.args.kind c.args.axes.now c.args.len c.args.hdus (FILE_LIMIT - (c.args.len - c.hdu_len.result)) c.spare_cards-spare.result hdu c.reshape.new.self c.finish.new.hdu tt c.card_count-whole.ensures.whole e.described c.spare_cards-spare.ensures c.requires.part c.requires.within most
-    (rw c.as_slice.ensures at e.ok) e.within e.least (rw c.as_slice.ensures at e.work) (rw c.as_slice.ensures at e.pixel_work) e.entry e.kept e.held (subst (λ b. IsFinished b c.reshape.new.self c.finish.new.hdu) stamps c.finish.ensures)
+    (rw c.as_slice.ensures at e.ok) e.within e.least (rw c.as_slice.ensures at e.work) (rw c.as_slice.ensures at e.pixel_work) e.entry e.kept e.held (e.held ∙ sym (c.requires.held c.in-Some._bits (sym (c.array_bits.ensures ∙ ap array_bits c.shape.ensures.value) ∙ c.in-Some.is))) (subst (λ b. IsFinished b c.reshape.new.self c.finish.new.hdu) stamps c.finish.ensures)
 
 pub reshape-requires-clause-held : goal.reshape-requires-clause-held
 reshape-requires-clause-held c = c.requires.held c.in-Some._bits (sym (c.array_bits.ensures ∙ ap array_bits c.shape.ensures.value) ∙ c.in-Some.is)

@@ -1,4 +1,4 @@
-use Rattle.std.proofs.Common.{◌≡◌, ◌≤◌, ◌^◌, ◌∙◌, length, refl, arith, sym, subst}
+use Rattle.std.proofs.Common.{◌≤◌, ◌^◌, ◌∙◌, length, refl, arith, sym, subst}
 use Rattle.std.proofs.lemmas.Result.{err_from_is_err_and}
 use Rattle.fits_stream.proofs.SightLemmas.{takes_fewer}
 use Rattle.fits_pixels.specs.Layout.{IsLayout}

@@ -1,4 +1,4 @@
-use Rattle.std.proofs.Common.{◌≡◌, ◌-◌, ◌%◌, ◌++◌, ◌∙◌, length, arith, [], refl}
+use Rattle.std.proofs.Common.{◌≡◌, ◌-◌, ◌%◌, ◌++◌, length, arith, [], refl}
 use Rattle.std.proofs.lemmas.List.{length-append}
 use Rattle.fits_stream.proofs.StreamLemmas.{Prints-more, Prints-none, PrintsFront-more, Reads-none}
 use Rattle.fits_unit.proofs.AgainLemmas.{came_more, copied_more, least_blocks, next_failed, next_short, next_stopped}

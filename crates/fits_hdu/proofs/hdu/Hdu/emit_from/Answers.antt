@@ -12,15 +12,14 @@ returns-clause-ok g c = λ xs is lie.
 pub returns-clause-like : goal.returns-clause-like
 returns-clause-like g c =
     let header = c.self.inside.header.header in
-    let unit = c.self.inside.unit.plane.bytes in
-    rw (← c.self.view_is) (on_ok_weaker c.emit_from.result (like_more header unit _ _ _ c.len-whole_words.ensures.whole c.in-Ok.ensures.ok) c.emit_from.ensures.like)
+    let unit = c.self.inside.unit in
+    rw (← c.self.view_is) (on_ok_weaker c.emit_from.result (like_more header unit.plane.bytes unit.absent _ _ _ c.len-whole_words.ensures.whole c.in-Ok.ensures.ok) c.emit_from.ensures.like)
 
 pub returns-clause-err : goal.returns-clause-err
 returns-clause-err g c = λ xs is lie.
     let header = c.self.inside.header.header in
-    let unit = c.self.inside.unit.plane.bytes in
     let own = rw (← c.self.view_is) at lie in
-    rw (← c.self.view_is) (IfErr-weaker c.emit_from.result _ _ (λ why fails. copy_more (header_bytes header) unit _ _ _ why c.in-Ok.ensures.ok fails) (c.emit_from.ensures.err xs is own))
+    rw (← c.self.view_is) (IfErr-weaker c.emit_from.result _ _ (λ why fails. copy_more (header_bytes header) _ _ _ _ why c.in-Ok.ensures.ok fails) (c.emit_from.ensures.err xs is own))
 
 pub returns-clause-writes : goal.returns-clause-writes
 returns-clause-writes g c = IfErr-weaker c.emit_from.result _ _ (λ why wrote. writes_more (header_bytes c.self.inside.header.header) _ _ _ why c.in-Ok.ensures.ok wrote) c.emit_from.ensures.writes

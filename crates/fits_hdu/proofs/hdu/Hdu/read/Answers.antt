@@ -38,7 +38,7 @@ returns-in-Err-clause-err g c =
 pub returns-in-Ok-of-clause-opened : goal.returns-in-Ok-of-clause-opened
 returns-in-Ok-of-clause-opened g c = record {
   reads = omega (arith, c.in-Ok-of.ensures.work, c.in_ok-cards.ensures.work, ap (λ (header : Header). length header.cards) c.in-Ok-of.ensures.header);
-  scans = rw c.in-Ok-of.ensures.unit c.in-Ok-of.ensures.scans;
+  scans = rw (c.in-Ok-of.ensures.held, c.in-Ok-of.ensures.unit) c.in-Ok-of.ensures.scans;
   kept = c.in-Ok-of.ensures.kept;
 }
 

@@ -35,8 +35,8 @@ set_card-requires-2-clause-room c =
     let first = c.holding.ensures ∙ ap (λ (card : List ℕ). card ∷ []) (c.checksum_card.ensures ∙ checksum_written zeros refl) in
     omega (arith, c.requires.room, c.set_card.ensures.room, datasum_count (parts_of c.args.self.now) (parts_of c.set_card.new.self) c.holding.result first c.set_card.ensures.hdu)
 
-pub sum-requires : goal.sum-requires
-sum-requires c =
+pub sum-requires-clause-small : goal.sum-requires-clause-small
+sum-requires-clause-small c =
     let first = c.holding.ensures ∙ ap (λ (card : List ℕ). card ∷ []) (c.checksum_card.ensures ∙ checksum_written zeros refl) in
     let sum = c.holding-2.ensures ∙ ap (λ (card : List ℕ). card ∷ []) (c.datasum_card-sum.ensures ∙ (datasum_written c.datasum.result ∙ ap (λ n. plain_card (codes "DATASUM ") (decimal n)) c.datasum.ensures)) in
     stamp_bytes (is_primary c.args.self.now.header.shape.class) (parts_of c.args.self.now) (parts_of c.set_card.new.self) (parts_of c.set_card-2.new.self) c.holding.result c.holding-2.result c.card_count-described.ensures.whole c.requires.small first c.set_card.ensures.hdu sum c.set_card-2.ensures.hdu

@@ -2,10 +2,10 @@ use Rattle.std.proofs.Common.{refl, rules}
 use Rattle.fits_session.proofs.holder.InFileHolder.emit.Goals as goal
 
 pub returns-clause-ok : goal.returns-clause-ok
-returns-clause-ok g c agree = let all = agree refl in c.emit_from.ensures.ok all.0 all.1.0 all.1.1
+returns-clause-ok g c told all = let own = all refl in c.emit_from.ensures.ok told own.0 own.1
 
 pub returns-clause-err : goal.returns-clause-err
-returns-clause-err g c agree = let all = agree refl in c.emit_from.ensures.err all.0 all.1.0 all.1.1
+returns-clause-err g c told all = let own = all refl in c.emit_from.ensures.err told own.0 own.1
 
 -- Said, so that a body that breaks it is refused at once.
 pub returns-clause-like : goal.returns-clause-like

@@ -1,3 +1,6 @@
+use Rattle.fits_session.proofs.HadLemmas.{seen_held}
+use Rattle.fits_session.specs.Session.{IsSeen}
+use Rattle.std.specs.Prelude.{All}
 use Rattle.std.proofs.Common.{◌≡◌, ◌+◌, ◌-◌, inl, inr, length, arith, ap, sym, ◌∙◌, refl}
 use Rattle.std.proofs.lemmas.Result.{err_from_is_err_and}
 use Rattle.fits_passing.specs.Hdu.{hdu_bytes}
@@ -11,7 +14,7 @@ use Rattle.fits_making.proofs.HadLemmas.{had_held}
 use Rattle.fits_session.proofs.ListEditLemmas.{all_inserted, is_placed, new_first, new_fits, new_left, new_made, new_memory, new_nowhere, new_shapeless, new_size, new_too_large, placed_at}
 use Rattle.std.proofs.lemmas.List.{length-map}
 use Rattle.std.proofs.lemmas.List.Edits.{length-insert}
-use Rattle.fits_hdu.specs.State.{name_of, IsDescribed}
+use Rattle.fits_hdu.specs.State.{HduState, name_of, IsDescribed}
 use Rattle.fits_session.specs.NameTable.{names_of}
 use Rattle.fits_session.proofs.KeptLemmas.{kept_as}
 use Rattle.fits_session.proofs.StandingLemmas.{unnamed_stands}
@@ -121,17 +124,22 @@ returns-clause-edits g c =
     let size = (file_within c.self.inside.hdus.items c.self.inside.tail.items c.self.invariant.whole).0 in
     let fits = new_fits c.self.inside.hdus.items c.self.inside.tail.items c.args.at c.args.kind c.args.axes.now placed (grind (arith, c.if-len-ge-HDU_LIMIT.false, c.len-2.ensures, c.self.inside.hdus.ok.0)) (omega (arith, size, long, c.self.invariant.len, c.in-Some.ensures.len, c.in-Some.ensures.within)) in
     let is = c.in_ok-hdu.ensures.hdu ∙ ap (new_image c.args.kind) axes_are in
-    rw (c.in-Ok.ensures.items, c.reserve.ensures.items, ← c.self.view_is) (new_made c.self.inside.hdus.items c.self.inside.tail.items c.args.at tt c.args.kind c.args.axes.now c.in_ok-hdu.hdu placed fits is c.in_ok-hdu.ensures.kept c.in_ok-hdu.ensures.work c.in_ok-hdu.ensures.scans)
+    rw (c.in-Ok.ensures.items, c.reserve.ensures.items, ← c.self.view_is) (new_made c.self.inside.hdus.items c.self.inside.tail.items c.args.at tt c.args.kind c.args.axes.now c.in_ok-hdu.hdu placed fits is c.in_ok-hdu.ensures.kept c.in_ok-hdu.ensures.held c.in_ok-hdu.ensures.work c.in_ok-hdu.ensures.scans)
 
 pub returns-clause-stays : goal.returns-clause-stays
-returns-clause-stays g c = λ bytes lie.
-    let own : AllLie bytes c.self.inside.hdus.items = rw (← c.self.view_is) at lie in
-    rw (c.in-Ok.ensures.items, c.reserve.ensures.items) (all_inserted (IsHad (in_file bytes)) c.self.inside.hdus.items (c.args.at - 1) c.in_ok-hdu.hdu (had_held (in_file bytes) c.in_ok-hdu.hdu c.in_ok-hdu.ensures.held) own)
+returns-clause-stays g c = record {
+  lie = λ bytes lie.
+      let own : AllLie bytes c.self.inside.hdus.items = rw (← c.self.view_is) at lie in
+      rw (c.in-Ok.ensures.items, c.reserve.ensures.items) (all_inserted (IsHad (in_file bytes)) c.self.inside.hdus.items (c.args.at - 1) c.in_ok-hdu.hdu (had_held (in_file bytes) c.in_ok-hdu.hdu c.in_ok-hdu.ensures.held) own);
+  seen = λ all.
+      let own : All IsSeen c.self.inside.hdus.items = rw (← c.self.view_is) at all in
+      rw (c.in-Ok.ensures.items, c.reserve.ensures.items) (all_inserted (λ (one : HduState). IsSeen one) c.self.inside.hdus.items (c.args.at - 1) c.in_ok-hdu.hdu (seen_held c.in_ok-hdu.hdu c.in_ok-hdu.ensures.held) own);
+}
 
 -- there is room for one more, and none of them changes
 pub returns-in_err-reserve-clause-stays : goal.returns-in_err-reserve-clause-stays
-returns-in_err-reserve-clause-stays g c = rw (c.reserve.ensures.items, ← c.self.view_is) (λ bytes lie. lie)
+returns-in_err-reserve-clause-stays g c = rw (c.reserve.ensures.items, ← c.self.view_is) (record { lie = λ bytes lie. lie; seen = λ all. all })
 
 -- there is room for one more, and none of them changes
 pub returns-in_err-reserve-2-clause-stays : goal.returns-in_err-reserve-2-clause-stays
-returns-in_err-reserve-2-clause-stays g c = rw (c.reserve.ensures.items, ← c.self.view_is) (λ bytes lie. lie)
+returns-in_err-reserve-2-clause-stays g c = rw (c.reserve.ensures.items, ← c.self.view_is) (record { lie = λ bytes lie. lie; seen = λ all. all })

@@ -1,3 +1,4 @@
+use Rattle.std.specs.Prelude.{All}
 use Rattle.std.proofs.Common.{ap, length, ◌<◌, ◌∙◌, arith, refl, subst, sym}
 use Rattle.std.specs.List.{remove}
 use Rattle.std.proofs.lemmas.List.Edits.{length-remove}
@@ -5,16 +6,16 @@ use Rattle.fits_session.specs.Away.{in_file, AllLie}
 use Rattle.fits_passing.specs.File.{FileParts, file_bytes, IsFile}
 use Rattle.fits_session.specs.NameTable.{Stands}
 use Rattle.fits_making.specs.Keeping.{IsSound}
-use Rattle.fits_session.specs.Session.{without_entries}
+use Rattle.fits_session.specs.Session.{IsSeen, without_entries}
 use Rattle.fits_making.specs.Making.{IsHad}
 use Rattle.fits_session.proofs.HadLemmas.{had_moved}
-use Rattle.fits_session.proofs.KeptLemmas.{count_moved, described_moved, file_of-unentered, right_unentered}
+use Rattle.fits_session.proofs.KeptLemmas.{seen_same, absences_moved, count_moved, described_moved, file_of-unentered, right_unentered}
 use Rattle.fits_session.proofs.StandingLemmas.{removed_leaves}
 use Rattle.std.proofs.lemmas.List.{length-append}
 use Rattle.fits_card.specs.Header.{header_bytes}
 use Rattle.fits_header.specs.State.{HeaderState}
 use Rattle.std.proofs.lemmas.Result.{err_from_is_err_and}
-use Rattle.fits_hdu.specs.State.{parts_of, IsDescribed}
+use Rattle.fits_hdu.specs.State.{HduState, parts_of, IsDescribed}
 use Rattle.fits_session.proofs.ListEditLemmas.{all_left, primary_stays, removed_left, removed_size, removes, removes_nowhere}
 use Rattle.fits_session.proofs.StateLemmas.{file_within, is_at, part_there}
 use Rattle.fits_session.proofs.session.Session.take_out.Goals as goal
@@ -83,8 +84,14 @@ returns-clause-edits g c =
     rw (← c.self.view_is) (removes c.self.inside.hdus.items c.leave.new.hdus.items c.self.inside.tail.items c.args.h c.in_ok-i.i tt c.remove-hdu.result at behind (c.leave.ensures.hdus ∙ ap without_entries c.remove-hdu.ensures.items))
 
 pub returns-clause-stays : goal.returns-clause-stays
-returns-clause-stays g c = λ bytes lie.
-    let hdus = c.self.inside.hdus.items in
-    let own : AllLie bytes hdus = rw (← c.self.view_is) at lie in
-    let moved = c.leave.ensures.hdus ∙ ap without_entries c.remove-hdu.ensures.items in
-    had_moved (in_file bytes) c.leave.new.hdus.items (remove hdus c.in_ok-i.i) moved (all_left (IsHad (in_file bytes)) hdus c.in_ok-i.i own)
+returns-clause-stays g c = record {
+  lie = λ bytes lie.
+      let hdus = c.self.inside.hdus.items in
+      let own : AllLie bytes hdus = rw (← c.self.view_is) at lie in
+      let moved = c.leave.ensures.hdus ∙ ap without_entries c.remove-hdu.ensures.items in
+      had_moved (in_file bytes) c.leave.new.hdus.items (remove hdus c.in_ok-i.i) moved (all_left (IsHad (in_file bytes)) hdus c.in_ok-i.i own);
+  seen = λ all.
+      let own : All IsSeen c.self.inside.hdus.items = rw (← c.self.view_is) at all in
+      let moved = c.leave.ensures.hdus ∙ ap without_entries c.remove-hdu.ensures.items in
+      seen_same c.leave.new.hdus.items (remove c.self.inside.hdus.items c.in_ok-i.i) (absences_moved c.leave.new.hdus.items (remove c.self.inside.hdus.items c.in_ok-i.i) moved) (all_left (λ (one : HduState). IsSeen one) c.self.inside.hdus.items c.in_ok-i.i own);
+}

@@ -10,10 +10,10 @@ use Rattle.fits_session.specs.Session.{reads_of, ReadsOnly}
 use Rattle.fits_making.specs.Making.{StaysHad}
 use Rattle.fits_session.proofs.HadLemmas.{had_at, had_moved}
 use Rattle.fits_making.proofs.HadLemmas.{had_read}
-use Rattle.fits_session.proofs.KeptLemmas.{described_moved, hdus_moved, kept_moved, reads_moved, works_moved}
+use Rattle.fits_session.proofs.KeptLemmas.{absences_moved, described_moved, hdus_moved, kept_moved, reads_moved, works_moved}
 use Rattle.fits_making.proofs.MakingLemmas.{lasts_read}
 use Rattle.fits_session.proofs.NamingLemmas.{follows_leaves, follows_same, points_was}
-use Rattle.fits_session.proofs.StateLemmas.{IsHduAt, hdus_of-same, kept_of-same, reads_more, works_of-same}
+use Rattle.fits_session.proofs.StateLemmas.{IsHduAt, absences_of-same, hdus_of-same, kept_of-same, reads_more, works_of-same}
 use Rattle.fits_session.proofs.TableLemmas.{names_within}
 use Rattle.fits_session.proofs.session.naming.follow.Goals as goal
 
@@ -46,6 +46,9 @@ returns-then-is_entry_of-clause-works c = works_of-same c.args.hdus.now.items c.
 
 pub returns-then-is_entry_of-clause-kept : goal.returns-then-is_entry_of-clause-kept
 returns-then-is_entry_of-clause-kept c = kept_of-same c.args.hdus.now.items c.args.i c.index_mut-hdu.result.now c.extension_name-name.new.self c.requires.within c.index_mut-hdu.ensures.value c.extension_name-name.ensures.work.kept
+
+pub returns-then-is_entry_of-clause-absences : goal.returns-then-is_entry_of-clause-absences
+returns-then-is_entry_of-clause-absences c = absences_of-same c.args.hdus.now.items c.args.i c.index_mut-hdu.result.now c.extension_name-name.new.self c.requires.within c.index_mut-hdu.ensures.value c.extension_name-name.ensures.work.absent
 
 pub returns-then-is_entry_of-clause-had : goal.returns-then-is_entry_of-clause-had
 returns-then-is_entry_of-clause-had c holding had =
@@ -102,9 +105,15 @@ returns-clause-kept c =
     ∙ kept_of-same c.args.hdus.now.items c.args.i c.index_mut-hdu.result.now c.set_entry.new.self c.requires.within c.index_mut-hdu.ensures.value
     (rw c.set_entry.ensures c.extension_name-name.ensures.work.kept)
 
+pub returns-clause-absences : goal.returns-clause-absences
+returns-clause-absences c =
+    absences_moved c.leave.new.hdus.items (set c.args.hdus.now.items c.args.i c.set_entry.new.self) c.leave.ensures.hdus
+    ∙ absences_of-same c.args.hdus.now.items c.args.i c.index_mut-hdu.result.now c.set_entry.new.self c.requires.within c.index_mut-hdu.ensures.value
+    (rw c.set_entry.ensures c.extension_name-name.ensures.work.absent)
+
 pub returns-clause-had : goal.returns-clause-had
 returns-clause-had c holding had =
     let at : IsHduAt c.args.hdus.now.items (c.args.i + 1) c.args.i c.index_mut-hdu.result.now = record { index = record { at = refl; within = c.requires.within }; is = c.index_mut-hdu.ensures.value } in
     let read : StaysHad c.index_mut-hdu.result.now c.extension_name-name.new.self = had_read _ _ _ c.extension_name-name.ensures.work in
     had_moved holding c.leave.new.hdus.items (set c.args.hdus.now.items c.args.i c.set_entry.new.self) c.leave.ensures.hdus
-    (had_at holding c.args.hdus.now.items (c.args.i + 1) c.args.i c.index_mut-hdu.result.now c.set_entry.new.self at (λ holding it. rw c.set_entry.ensures (let read_it = read holding it in record { held = read_it.held; lies = read_it.lies })) had)
+    (had_at holding c.args.hdus.now.items (c.args.i + 1) c.args.i c.index_mut-hdu.result.now c.set_entry.new.self at (λ holding it. rw c.set_entry.ensures (let read_it = read holding it in record { held = read_it.held; lies = read_it.lies; kept = read_it.kept })) had)

@@ -12,13 +12,14 @@ use Rattle.fits_session.proofs.HadLemmas.{had_named}
 use Rattle.fits_making.proofs.MakingLemmas.{lasts_read}
 use Rattle.fits_session.proofs.NamingLemmas.{all_more, first_after, name_kept, ok_or, opened_more, rest_after, with_entry}
 use Rattle.fits_session.proofs.StandingLemmas.{entered_as, few_told, one_more_stands}
-use Rattle.fits_session.proofs.StateLemmas.{hdus_of-same}
+use Rattle.fits_session.proofs.StateLemmas.{absences_of-same, hdus_of-same}
 use Rattle.fits_passing.proofs.NameCountLemmas.{table_empty}
 use Rattle.fits_session.proofs.session.naming.name_all.Goals as goal
 
 pub loop-i-init : goal.loop-i-init
 loop-i-init c = record {
   hdus = refl;
+  absences = refl;
   count = refl;
   rest = refl;
   stands = record { table = table_empty c.new-counts.result.numbers.entries c.new-counts.ensures; placed = All-nil _ };
@@ -47,6 +48,7 @@ loop-i-preserved c =
     let lasts = lasts_read old read name_reads c.extension_name-name.ensures.described r in
     rw c.set_entry.ensures (record {
       hdus = hdus_of-same hdus i old new within c.index_mut-hdu.ensures.value (parts_read old read name_reads r) ∙ c.loop-i.invariant.hdus;
+      absences = absences_of-same hdus i old new within c.index_mut-hdu.ensures.value r.absent ∙ c.loop-i.invariant.absences;
       count = length-set hdus i new ∙ c.loop-i.invariant.count;
       rest = rest_after hdus c.args.hdus.now.items i new c.loop-i.invariant.rest;
       stands =
@@ -82,3 +84,6 @@ pub returns-clause-opened : goal.returns-clause-opened
 returns-clause-opened c opened =
     let all : take c.loop-i.i c.loop-i.hdus.items ≡ c.loop-i.hdus.items = take_all c.loop-i.i c.loop-i.hdus.items (omega (arith, c.loop-i-test.false, c.len-i-end.ensures, c.loop-i.invariant.count, c.args.hdus.now.ok.0)) in
     ok_or c.of.result (subst (All (IsOpened name_reads)) all (c.loop-i.invariant.opened opened))
+
+pub returns-clause-absences : goal.returns-clause-absences
+returns-clause-absences c = ok_or c.of.result c.loop-i.invariant.absences

@@ -2,13 +2,18 @@ use Rattle.std.proofs.Common.{◌≤◌, ◌<◌, length, ap, ◌∙◌, arith}
 use Rattle.fits_passing.specs.Report.{names_from}
 use Rattle.fits_session.specs.Session.{hdus_of}
 use Rattle.fits_session.proofs.CountLemmas.{all_listed, hdu_small, listed_here}
-use Rattle.fits_session.proofs.ReportLemmas.{hdus_stay}
+use Rattle.fits_session.proofs.ReportLemmas.{hdus_stay, seen_here}
 use Rattle.fits_session.proofs.session.queries.problems.Goals as goal
 
-pub whole-whole-requires : goal.whole-whole-requires
-whole-whole-requires c =
+pub whole-whole-requires-clause-known : goal.whole-whole-requires-clause-known
+whole-whole-requires-clause-known c =
     let l : c.loop-i.i < length c.loop-i.hdus.items = omega (arith, ap length c.loop-i.invariant.same) in
-    hdu_small c.loop-i.hdus.items _ c.requires.tail c.loop-i.i c.index_mut-hdu.result.now c.loop-i.invariant.same c.requires.whole l c.index_mut-hdu.ensures.value
+    seen_here c.loop-i.hdus.items _ c.loop-i.i c.index_mut-hdu.result.now c.loop-i.invariant.same c.requires.seen l c.index_mut-hdu.ensures.value
+
+pub whole-whole-requires-clause-small : goal.whole-whole-requires-clause-small
+whole-whole-requires-clause-small c =
+    let l : c.loop-i.i < length c.loop-i.hdus.items = omega (arith, ap length c.loop-i.invariant.same) in
+    hdu_small c.loop-i.hdus.items _ c.requires.named.tail c.loop-i.i c.index_mut-hdu.result.now c.loop-i.invariant.same c.requires.named.whole l c.index_mut-hdu.ensures.value
 
 pub returns-in_err-of_cards-clause-same : goal.returns-in_err-of_cards-clause-same
 returns-in_err-of_cards-clause-same c = hdus_stay c.loop-i.hdus.items _ c.loop-i.i c.index_mut-hdu.result.now _ c.loop-i.invariant.same (omega (arith, ap length c.loop-i.invariant.same)) c.index_mut-hdu.ensures.value c.findings.ensures.same
@@ -22,7 +27,7 @@ loop-i-preserved c =
     record {
       listed =
           listed_here c.loop-i.hdus.items c.args.hdus.now.items c.args.names.now.numbers.items c.loop-i.i c.index_mut-hdu.result.now c.is_repeated-repeated.result c.whole-whole.result c.in_ok-of_cards.of_cards.items c.loop-i.report.items c.push_problems.new.report.items
-          c.loop-i.invariant.same c.requires l c.index_mut-hdu.ensures.value (rw c.entry.ensures at c.is_repeated-repeated.ensures) c.whole-whole.ensures c.in_ok-of_cards.ensures.found c.loop-i.invariant.listed (rw c.deref.ensures.value at c.in_ok-push_problems.ensures);
+          c.loop-i.invariant.same c.requires.named l c.index_mut-hdu.ensures.value (rw c.entry.ensures at c.is_repeated-repeated.ensures) c.whole-whole.ensures c.in_ok-of_cards.ensures.found c.loop-i.invariant.listed (rw c.deref.ensures.value at c.in_ok-push_problems.ensures);
       same = hdus_stay c.loop-i.hdus.items _ c.loop-i.i c.index_mut-hdu.result.now _ c.loop-i.invariant.same l c.index_mut-hdu.ensures.value c.findings.ensures.same;
     }
 

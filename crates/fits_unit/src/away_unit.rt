@@ -1,0 +1,65 @@
+ghost use Rattle.std.specs.Prelude.{◌≡◌};
+
+use crate::passed_unit::PassedUnit;
+use crate::unread_unit::UnreadUnit;
+use fits_pixels::Layout;
+use fits_stream::Count;
+
+/// A data unit that isn't in memory.
+#[derive(Drop)]
+pub enum AwayUnit {
+    /// It is known by what was found as its bytes passed by.
+    Passed(PassedUnit),
+    /// None of its bytes was looked at.
+    Unread(UnreadUnit),
+}
+
+impl AwayUnit {
+    ghost use Rattle.std.specs.Prelude.{◌≡◌, ◌↔◌, length, IsTrue};
+    ghost use Rattle.fits_pixels.specs.Layout.{IsLayout};
+    ghost use Rattle.fits_unit.specs.DataUnit.{away_plane, blanked, is_passed, passed_blank, passed_blocks};
+
+    /// How its bytes are read.
+    pub(crate) fn layout(&self) -> Layout
+        ensures value { result ≡ (away_plane self.now).layout }
+        ensures fits { IsLayout result (away_plane self.now).bytes }
+        ensures scanned { (away_plane self.now).scans ≡ passed_blocks self.now }
+    {
+        match self {
+            AwayUnit::Passed(it) => it.layout(),
+            AwayUnit::Unread(it) => it.layout(),
+        }
+    }
+
+    /// How many bytes it has, with the fill.
+    pub fn byte_len(&self) -> usize
+        ensures { result ≡ length (away_plane self.now).bytes }
+    {
+        match self {
+            AwayUnit::Passed(it) => it.byte_len(),
+            AwayUnit::Unread(it) => it.byte_len(),
+        }
+    }
+
+    /// Makes this the stored number of undefined pixels. Its bytes aren't looked at.
+    pub(crate) fn set_blank(&mut self, blank: Option<i64>)
+        ensures plane { away_plane self.new ≡ blanked blank (away_plane self.old) }
+        ensures passed { is_passed self.new ≡ is_passed self.old }
+        ensures found { passed_blank self.new ≡ passed_blank self.old }
+    {
+        match self {
+            AwayUnit::Passed(it) => it.set_blank(blank),
+            AwayUnit::Unread(it) => it.set_blank(blank),
+        }
+    }
+
+    /// How many of its blocks were scanned so far.
+    pub(crate) fn into_scans(self) -> Count
+        ensures { result.total ≡ (away_plane self).scans }
+    {
+        match self {
+            AwayUnit::Passed(it) => it.into_scans(),
+            AwayUnit::Unread(_) => Count::new(),
+        }
+    }
+}
