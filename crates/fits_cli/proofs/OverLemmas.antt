@@ -241,6 +241,7 @@ asked_at answer (u ∷ us) [] i same = absurd (cc)
 asked_at answer (u ∷ us) (v ∷ vs) zero same = let own : u.header ≡ v.header = cc in ap answer own
 asked_at answer (u ∷ us) (v ∷ vs) (suc i) same = let rest : map header_of us ≡ map header_of vs = cc in asked_at answer us vs i rest
 
+-- and of an HDU by its number
 asked_of : {X : Type 0} (answer : Header → Result X Refusal) (file other : FileParts) (h : ℕ) → headers_of file ≡ headers_of other
     → in_hdu (λ (hdu : HduParts). answer hdu.header) (hdu_of file h) ≡ in_hdu (λ (hdu : HduParts). answer hdu.header) (hdu_of other h)
 asked_of answer file other zero same = refl
@@ -262,11 +263,12 @@ some_at (u ∷ us) [] i same some = absurd (cc)
 some_at (u ∷ us) (v ∷ vs) zero same some = refl
 some_at (u ∷ us) (v ∷ vs) (suc i) same some = let rest : map header_of us ≡ map header_of vs = cc in some_at us vs i rest some
 
+-- and by its number
 some_over : (file other : FileParts) → headers_of file ≡ headers_of other → (h : ℕ) → IsSome (hdu_of file h) → IsSome (hdu_of other h)
 some_over file other same zero some = some
 some_over file other same (suc h) some = some_at file.hdus other.hdus h same some
 
--- so data are wanted of it
+-- so data are wanted by an edit
 edit_wants_over : (file other : FileParts) → headers_of file ≡ headers_of other → (edit : SessionEdit) → EditWantsData file edit → EditWantsData other edit
 edit_wants_over file other same (Hdu h (Cards edit)) wants = wants
 edit_wants_over file other same (Hdu h (Pixels lo hi paint)) wants = subst (λ (r : Result Kind Refusal). IsOk r) (kind_over file other same h) wants
@@ -277,6 +279,7 @@ edit_wants_over file other same (Hdu h Release) wants = wants
 edit_wants_over file other same (NewImage h kind axes) wants = wants
 edit_wants_over file other same (RemoveHdu h) wants = wants
 
+-- and by what a line does or asks
 pub wants_over : (file other : FileParts) → headers_of file ≡ headers_of other → (command : Command) → CommandWantsData file command → CommandWantsData other command
 unfolding CommandWantsData
 wants_over file other same Nothing wants = wants
@@ -305,6 +308,7 @@ pub plains_told : (told : List ℕ) (it : Progress) (line : List ℕ) → it.ext
 plains_told told it line taken =
     sym (stands_over told it line ∙ ap (λ (b : Bool). if b then stands_for it.whole (file_of it.session) line else Ok (line ∷ [])) taken)
 
+-- and for the same queries
 pub queries_told : (told : List ℕ) (it : Progress) (line : List ℕ) → it.extended ≡ true → queries_for (file_of it.session) line ≡ queries_by (standing_at told it) line
 queries_told told it line taken =
     sym (queries_over told it line ∙ ap (λ (b : Bool). if b then queries_for (file_of it.session) line else None) taken)

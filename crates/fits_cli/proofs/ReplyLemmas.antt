@@ -26,6 +26,7 @@ abbrev Settles : Clues → Result (Vec ℕ Global) Refusal → Reply → Type 0
 Settles clues result it =
     ((text : Vec ℕ Global) × (result ≡ Ok text) × (it ≡ Done text)) ⊎ ((why : Refusal) × (why ≡ Memory → ⊥) × (result ≡ Err why) × (it ≡ Refused why clues))
 
+-- so it is with what settling gives
 settles : (clues : Clues) (result : Result (Vec ℕ Global) Refusal) (it : Reply) → settled clues result ≡ Ok it → Settles clues result it
 settles clues (Ok text) it is = let here : Done text ≡ it = cc in inl (text, refl, sym here)
 settles clues (Err Memory) it is = absurd (cc)

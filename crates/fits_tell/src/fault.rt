@@ -21,7 +21,7 @@ pub enum Fault {
     ReadFailed,
     #[error("fitsed: write failed")]
     WriteFailed,
-    /// Data of the file were wanted again, and weren't had.
+    /// Data of the file were wanted, and weren't had; or it changed.
     #[error("fitsed: {0}")]
     Reread(Reread),
 }

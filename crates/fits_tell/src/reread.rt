@@ -1,14 +1,15 @@
 use fits_unit::LoadFault;
 use thiserror::Error;
 
-/// Why data that had passed by weren't had again.
+/// Why data that lie in a stored file weren't had.
 #[derive(Clone, Copy, Debug, Error)]
 pub enum Reread {
     #[error("no memory")]
     Memory,
     #[error("read failed")]
     Failed,
-    /// They have another total than they had, or there are fewer.
+    /// They have another total than was known, or there are fewer; or the file isn't as it was when
+    /// the run began.
     #[error("the file changed while it was read")]
     Changed,
 }

@@ -1,4 +1,4 @@
-//! Bytes of a stored file that are read again.
+//! Bytes of a stored file, read by their place.
 ghost use Rattle.std.specs.Prelude.{◌≡◌, ◌<◌, ◌≤◌, ◌+◌, ◌*◌, ◌/◌, ◌%◌, ◌^◌, length, IfOk, IfErr, OnOk};
 ghost use Rattle.fits_sum.specs.Words.{word_total};
 ghost use Rattle.fits_stream.specs.Agree.{ReadsOn};
@@ -14,7 +14,7 @@ use fits_stream::{Count, ReadLog, Sink, Source, Stored, StoredSource, fill, writ
 use fits_sum::words_total;
 use std::alloc::Global;
 
-/// Why bytes weren't read again.
+/// Why bytes weren't had.
 #[derive(Clone, Copy, Debug)]
 pub enum LoadFault {
     /// Memory was refused.

@@ -16,7 +16,7 @@ use Rattle.fits_tell.specs.declared.level.Level.TheVariants.{All, Errors, Quiet}
 use Rattle.fits_cli.specs.declared.manner.Manner.{Manner}
 use Rattle.fits_cli.specs.declared.saves.Saves.TheVariants.{Made}
 use Rattle.fits_cli.specs.declared.terms.Terms.{Terms}
-use Rattle.fitsed.specs.Saving.{StandsOrFails}
+use Rattle.fitsed.specs.Saving.{is_saved, StandsOrFails}
 use Rattle.fitsed.specs.declared.task.SavingTerms.{SavingTerms}
 
 -- the streams of a run: its script, the sink of its answers, that of its result, and that of remarks, if there is one
@@ -49,9 +49,10 @@ pub record RunsThrough (terms : Terms) (old new : Streams) (done : Result Edited
 abbrev pub Runs : Terms → Streams → Streams → Result Edited Fault → Type 0
 Runs terms old new done = RunsByPlaces terms old new done ⊎ RunsThrough terms old new done
 
--- what a run came to stands, or is given up since the file that it read is another than it was as the run began
+-- what a run came to stands; or one whose result is there is given up, since the file that it read is another than it was as the
+-- run began
 abbrev pub IsOrChanged : Result Edited Fault → Result Edited Fault → Type 0
-IsOrChanged ran done = (done ≡ ran) ⊎ (done ≡ Err (RereadFault again.Changed))
+IsOrChanged ran done = (done ≡ ran) ⊎ ((is_saved ran ≡ true) × (done ≡ Err (RereadFault again.Changed)))
 
 -- a run over a file, either way, and then this
 pub record RunsThen (terms : Terms) (old new : Streams) (done : Result Edited Fault) : Type 0 where

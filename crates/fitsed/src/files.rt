@@ -62,7 +62,7 @@ pub fn source_of(file: File) -> FileSource<File> {
     }
 }
 
-/// Whether a file is a regular one, which can be read again.
+/// Whether a file is a regular one, which can be read by places.
 pub fn is_stored(file: &File) -> bool {
     matches!(file.metadata(), Ok(about) if about.is_file())
 }

@@ -121,7 +121,7 @@ impl<H: Holder + Drop> Session<H> {
     }
 
     /// Has the data unit of HDU h in memory, if there is one: where it lies in a file it is read, and
-    /// where it is known it is judged by its length and its total. Reads that fail are counted.
+    /// it is judged by its length, and where it is known by its total. Reads that fail are counted.
     pub fn load(&mut self, h: usize, log: &mut ReadLog) -> Result<(), LoadFault>
         ensures held { OnOk result (IsSoOf IsHeld h self.new.hdus) }
         ensures same { (told : List ℕ) → IsTold H.whole told log.new self.old.hdus
