@@ -1,0 +1,10 @@
+pub mod BlocksLemmas
+pub mod MissingLemmas
+pub mod PaintedLemmas
+pub mod PaintingLemmas
+pub mod PassingLemmas
+pub mod PieceLemmas
+pub mod PiecesLemmas
+pub mod ReadingLemmas
+pub mod RescanLemmas
+pub mod RootLemmas
