@@ -188,9 +188,9 @@ fn run<H: Holder + Drop, S: Source, P: Sink, O: Sink, E: Sink>(
     save_result(alloc, terms, runner, &before, saved, out)
 }
 
-// Answers a script over a file, and flushes the answers. Before the first line it asks for the report
-// of the file, where that is wanted, and answers it.
-fn answered<H: Holder + Drop, S: Source, O: Sink, E: Sink>(
+/// Answers a script over a file, and flushes the answers. Before the first line it asks for the report
+/// of the file, where that is wanted, and answers it.
+pub(crate) fn answered<H: Holder + Drop, S: Source, O: Sink, E: Sink>(
     alloc: Global,
     terms: Terms,
     runner: &mut Runner<H>,

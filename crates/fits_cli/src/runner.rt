@@ -17,10 +17,12 @@ use crate::table_problems::table_problems;
 use crate::terms::Terms;
 use fits_extended::{Stands, Unmet, plain_line, queries_of_each};
 use fits_passing::Look;
+use fits_redo::Plan;
 use fits_script::{LineReading, read_line};
-use fits_session::{Holder, Session};
-use fits_stream::{ReadLog, Sink};
+use fits_session::{Holder, InFile, Session};
+use fits_stream::{ReadLog, Sink, Stored};
 use fits_tell::{Fault, Level, flush};
+use fits_unit::LoadFault;
 use std::alloc::{AllocError, Global};
 use std::marker::Model;
 
@@ -429,6 +431,28 @@ impl<H: Holder + Drop> Runner<H> {
         ensures { result ≡ (terms.spare && not self.now.edited) }
     {
         terms.spare && !self.edited
+    }
+}
+
+impl<'f, F: Stored> Runner<InFile<'f, F>> {
+    /// The blocks that saving on these terms changes in the file itself, which has so many bytes. There
+    /// is no plan where nothing is to be saved; nor where it can't be saved in its place, or memory is
+    /// refused for the plan: then it's saved.
+    pub(crate) fn plan_or_save<P: Sink>(
+        &mut self,
+        terms: Terms,
+        len: u64,
+        saved: &mut P,
+    ) -> Result<Option<Plan>, Fault> {
+        if self.is_spared(terms) {
+            return Ok(None);
+        }
+        match self.session.plan(len, &mut self.log) {
+            Ok(Some(plan)) => return Ok(Some(plan)),
+            Ok(None) | Err(LoadFault::Memory) => self.save(terms, saved)?,
+            Err(why) => return Err(Fault::from(why)),
+        }
+        Ok(None)
     }
 }
 

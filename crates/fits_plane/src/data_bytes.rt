@@ -18,7 +18,7 @@ use std::marker::Model;
 /// far.
 ///
 /// Outside this module they are reached by these functions alone: each counts what it looks at. The
-/// fill is looked at without a count.
+/// fill is looked at without a count, and so are bytes that are written or compared with others.
 #[derive(Drop)]
 pub(crate) struct DataBytes {
     bytes: Vec<u8>,
@@ -201,6 +201,13 @@ impl DataBytes {
         self.scans.tick();
         let bytes = self.bytes.as_mut_slice();
         parts::paint_block(bytes, layout, k, start, count, painting, rank, all)
+    }
+
+    /// The bytes, to be compared with others.
+    pub(crate) fn bytes(&self) -> &[u8]
+        ensures { result.now ≡ self.now.bytes }
+    {
+        self.bytes.as_slice()
     }
 
     /// Writes the bytes, or a prefix of them where a call failed.

@@ -48,6 +48,11 @@ abbrev pub absence_of : Option Absent → Option Absence
 absence_of None = None
 absence_of (Some it) = Some (record { place = it.place; known = is_passed it.unit; blank = passed_blank it.unit })
 
+-- its place in its file, if it isn't in memory
+abbrev pub place_of : Option Absence → Option ℕ
+place_of None = None
+place_of (Some it) = Some it.place
+
 -- its bytes are known: it is in memory, or they passed by
 abbrev pub IsKnown : Option Absence → Type 0
 IsKnown absent = IfSome absent (λ it. it.known ≡ true)

@@ -50,7 +50,7 @@ impl DataUnit {
     ghost use Rattle.fits_plane.specs.Painting.{Paints, Suits};
     ghost use Rattle.fits_plane.specs.Rectangle.{IsRectangle, product, rectangle_size, rectangle_values};
     ghost use Rattle.fits_unit.specs.Again.{copied_blocks, CopiesUnit, CopyCounts, CopyFails, CopyWrites, Follows, HasTotal, LoadCounts, Looks, PrintsAs};
-    ghost use Rattle.fits_unit.specs.DataUnit.{away_plane, is_passed, opened_blocks, passed_blank, unit_at, IsCounted, IsKnown, LiesIn};
+    ghost use Rattle.fits_unit.specs.DataUnit.{away_plane, is_passed, opened_blocks, passed_blank, place_of, unit_at, IsCounted, IsKnown, LiesIn};
 
     /// A data unit in memory.
     pub fn held(plane: Plane) -> DataUnit
@@ -108,6 +108,16 @@ impl DataUnit {
                 AwayUnit::Passed(unit) => unit.blank() == unit.layout().blank,
                 AwayUnit::Unread(_) => false,
             },
+        }
+    }
+
+    /// Where it lies in its file, if it isn't in memory.
+    pub fn place(&self) -> Option<u64>
+        ensures { result ≡ place_of self.now.absent }
+    {
+        match &self.absent {
+            None => None,
+            Some(it) => Some(it.place),
         }
     }
 

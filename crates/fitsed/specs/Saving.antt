@@ -28,3 +28,8 @@ IsPlaced stage = kept stage ≡ stage
 abbrev pub status_of_saving : Option SaveFault → Result Edited Fault → ℕ
 status_of_saving None done = (end_of done).status
 status_of_saving (Some fault) done = 3
+
+-- the same, or what it was said to be where standard error was told why
+abbrev pub status_told : Option ℕ → Option SaveFault → Result Edited Fault → ℕ
+status_told None fault done = status_of_saving fault done
+status_told (Some status) fault done = status

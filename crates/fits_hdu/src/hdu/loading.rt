@@ -11,7 +11,7 @@ impl Hdu {
     ghost use Rattle.fits_stream.specs.Stream.{Prints};
     ghost use Rattle.fits_pixels.specs.Layout.{block_count};
     ghost use Rattle.fits_unit.specs.Again.{copied_blocks, CopyCounts, CopyFails, CopyWrites, Follows, LoadCounts, Looks, PrintsAs};
-    ghost use Rattle.fits_unit.specs.DataUnit.{away_plane, is_passed, passed_blank, IsCounted, LiesIn};
+    ghost use Rattle.fits_unit.specs.DataUnit.{away_plane, is_passed, passed_blank, place_of, IsCounted, LiesIn};
     ghost use Rattle.fits_passing.specs.Hdu.{hdu_bytes};
     ghost use Rattle.fits_passing.specs.Met.{IsMet};
     ghost use Rattle.fits_hdu.specs.State.{hdu_at, parts_of, IsSeen, ReadsUpTo};
@@ -41,6 +41,13 @@ impl Hdu {
         ensures { IsTrue result ↔ self.now.absent ≡ None }
     {
         self.unit.is_held()
+    }
+
+    /// Where its data unit lies in its file, if it isn't in memory.
+    pub fn place(&self) -> Option<u64>
+        ensures { result ≡ place_of self.now.absent }
+    {
+        self.unit.place()
     }
 
     /// Whether its data unit is known: it is in memory, or its bytes passed by.
