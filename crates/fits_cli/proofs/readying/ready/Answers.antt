@@ -7,13 +7,13 @@ pub returns-in-Edit-clause-like : goal.returns-in-Edit-clause-like
 returns-in-Edit-clause-like g c = loaded_for _ _ _ c.load_for.ensures.alone
 
 pub returns-in-Statistics-clause-like : goal.returns-in-Statistics-clause-like
-returns-in-Statistics-clause-like g c = loaded_at _ _ _ c.load_counts.ensures.alone
+returns-in-Statistics-clause-like g c = loaded_at _ _ _ _ c.load_counts.ensures.alone
 
 pub returns-in-Rectangle-clause-like : goal.returns-in-Rectangle-clause-like
-returns-in-Rectangle-clause-like g c = loaded_at _ _ _ c.load_pixels.ensures.alone
+returns-in-Rectangle-clause-like g c = loaded_at _ _ _ _ c.load_pixels.ensures.alone
 
 pub returns-in-Sums-clause-like : goal.returns-in-Sums-clause-like
-returns-in-Sums-clause-like g c = loaded_at _ _ _ c.know.ensures.alone
+returns-in-Sums-clause-like g c = loaded_at _ _ _ _ c.know.ensures.alone
 
 pub returns-in-Report-clause-like : goal.returns-in-Report-clause-like
 returns-in-Report-clause-like g c = loaded_all _ _ c.know_all.ensures.each
