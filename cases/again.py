@@ -128,14 +128,20 @@ OBJECT = "set 1 OBJECT 'M31'"
 TIMEOUT = 120
 SHM = "/dev/shm" if os.access("/dev/shm", os.W_OK) else None
 
-# Lines that want pixels of such an image.
-TOO_LARGE = ["fill 1 1:1 5", "write 1 1:1 5", "rect 1 1:1", "reshape 1 i16 1", "stamp 1\nset 1 BLANK 7\nstat 1"]
+# Lines that want all pixels of such an image, or half of them.
+TOO_LARGE = [f"fill 1 1:{LARGE // 2} 5", f"rect 1 2:{LARGE}", "reshape 1 i16 1", "stamp 1\nset 1 BLANK 7\nstat 1"]
+
+# Lines that want some of them, what they print, and which bytes are others then.
+FEW = f"fill 1 1:1 5\nwrite 1 46080:46081 6 7\nrect 1 46079:46082\nfill 1 {LARGE}:{LARGE} 9\nrect 1 1:2\nstat 1\nsum 1"
+FEW_PAINTED = {0: 5, 46_079: 6, 46_080: 7, LARGE - 1: 9}
+FEW_PRINTED = f"0 6 7 0\n5 0\ndefined {LARGE} blank 0 min 0 max 9 sum 27\ndatasum {(5 << 24) + 6 + (7 << 24) + 9} verdicts 0 0\n"
 
 
 @dataclasses.dataclass(frozen=True)
 class Run:
-    """A run over BEFORE: what it prints before anything is read again, and in all, and what it saves, if anything."""
+    """A run over a file: what it prints before anything is read again, and in all, and what it saves, if anything."""
 
+    before: bytes
     words: list
     old: bytes | None
     script: bytes
@@ -145,7 +151,7 @@ class Run:
 
     def over(self, program, **environment):
         """What it comes to, and the files then."""
-        return program.under(**environment).over(self.words, self.files(BEFORE, False), self.script)
+        return program.under(**environment).over(self.words, self.files(self.before, False), self.script)
 
     def files(self, of, is_saved):
         """The files before it or after it, of which IN is this one."""
@@ -156,13 +162,17 @@ class Run:
         """Whether OUT is IN."""
         return self.words[0] == "edit" and self.words[-1] == "in.fits"
 
-    def whole(self, of=BEFORE):
-        """How it ends that meets no fault, and the files then, of which IN is this one."""
-        return {"status": 0, "printed": self.printed, "reported": b""}, self.files(of, True)
+    def changed(self, change):
+        """Its file after a change, if there is one."""
+        return changed_by(self.before, change) if change else self.before
 
-    def stopped(self, fault, printed, of=BEFORE):
+    def whole(self, change=None):
+        """How it ends that meets no fault, and the files then, of which IN may have changed."""
+        return {"status": 0, "printed": self.printed, "reported": b""}, self.files(self.changed(change), True)
+
+    def stopped(self, fault, printed, change=None):
         """The same where it ends by a fault, once it has printed this."""
-        return {"status": 3, "printed": printed, "reported": fault}, self.files(of, False)
+        return {"status": 3, "printed": printed, "reported": fault}, self.files(self.changed(change), False)
 
 
 def runs(ways, lines, loads):
@@ -172,7 +182,7 @@ def runs(ways, lines, loads):
         for line, answer, saved in lines:
             script, printed = f"{first}\n{line}\nget 1 NAXIS", f"{told}{answer}integer 1\n".encode()
             front = told.encode() if loads else printed
-            run = Run(words, old, script.encode(), front, printed, saved if words[0] == "edit" else None)
+            run = Run(BEFORE, words, old, script.encode(), front, printed, saved if words[0] == "edit" else None)
             yield f"{words}, {'over another, ' if old else ''}{line}", run
 
 
@@ -274,9 +284,8 @@ def of_files(shim):
 
 def changes(program, shim, run, change, fault, printed):
     """Where a run over a file that changes before it is read again ends otherwise than by this fault, or leaves other files."""
-    of = changed_by(BEFORE, change)
     ran, after = run.over(program, LD_PRELOAD=shim, **change)
-    return apart(ran, after, *(run.stopped(fault, printed, of) if fault else run.whole(of)))
+    return apart(ran, after, *(run.stopped(fault, printed, change) if fault else run.whole(change)))
 
 
 def each(program, shim, run, name, row):
@@ -296,9 +305,9 @@ def changes_later(program, shim, run, change):
     is_whole = False
     for k, met, ran, after in each(program, shim, run, "WHEN", {"STREAM": "again", **change}):
         is_whole = is_whole or not met or k > 1 and ran.status == 0
-        of = changed_by(BEFORE, change) if met else BEFORE
+        done = change if met else None
         printed = ran.printed if ran.printed in (run.front, run.printed) else run.front
-        for line in apart(ran, after, *(run.whole(of) if is_whole else run.stopped(CHANGED, printed, of))):
+        for line in apart(ran, after, *(run.whole(done) if is_whole else run.stopped(CHANGED, printed, done))):
             yield f"changed at {k}: {line}"
 
 
@@ -478,9 +487,9 @@ def renamed(path):
     os.replace(new, path)
 
 
-def dialogue(program, words, first, said, change, then, answer, fault, saved):
+def dialogue(program, words, first, said, change, then, answer, fault, saved, before=BEFORE):
     """Where a run over a file that changes once its first lines are answered ends otherwise, or leaves other files."""
-    with program.room({"in.fits": BEFORE, "out.fits": OLD}) as room, conversing([program.path, *words], room) as run:
+    with program.room({"in.fits": before, "out.fits": OLD}) as room, conversing([program.path, *words], room) as run:
         ran = spoken(run, first, lambda: change(pathlib.Path(room) / "in.fits"), then)
         files = small_files(room, "in.fits")
     ends = {"status": 3 if fault else 0, "printed": (said + answer).encode(), "reported": fault or b""}
@@ -594,6 +603,8 @@ def of_large_files():
         yield f"ask {line} of a large file", large_refused, ["ask", "in.fits"], line
     for words in (*(["edit", *options, "in.fits", "out.fits"] for options in ([], ["-a"], ["-c"])), ["edit", "-i", "in.fits"]):
         yield f"{words} {TOO_LARGE[0]} of a large file", large_refused, words, TOO_LARGE[0]
+        yield f"{words} some pixels of a large file", large_painted, words
+    yield "ask some pixels of a large file", large_painted, ["ask", "in.fits"]
     yield "ask of an image after a large one", large_stays
     for words in (["ask"], ["edit", "-i"]):
         yield f"{words} of several, of which one is large", large_of_several, words
@@ -618,13 +629,24 @@ def large_refused(program, words, line):
         yield from differences(image_at(f"{room}/in.fits"), **of_image(LARGE))
 
 
+def large_painted(program, words):
+    """Where some pixels of a large file aren't painted and read in little memory, or another byte is another one."""
+    with program.room({}, SHM) as room:
+        make_image(f"{room}/in.fits", LARGE)
+        ran = in_little_memory(program, words, room, FEW)
+        yield from differences(ran, status=0, printed=FEW_PRINTED.encode(), reported=b"")
+        image = of_image(LARGE)
+        painted = {"ones": image["ones"] | FEW_PAINTED} if words[0] == "edit" else {}
+        yield from differences(image_at(f"{room}/{words[-1]}"), **image | painted)
+
+
 def large_stays(program):
     """Where the pixels of an image are wanted that a large one stands before, and that isn't left in the file."""
     with program.room({}, SHM) as room:
         make_image(f"{room}/in.fits", LARGE)
         with open(f"{room}/in.fits", "ab") as file:
             file.write(THIRD)
-        ran = in_little_memory(program, ["ask", "in.fits"], room, "rect 2 1:1\nwrite 2 1:1 8\nrect 2 1:1\nrect 1 1:1")
+        ran = in_little_memory(program, ["ask", "in.fits"], room, f"rect 2 1:1\nwrite 2 1:1 8\nrect 2 1:1\n{TOO_LARGE[1]}")
         yield from differences(ran, status=3, printed=b"7\n8\n", reported=NO_MEMORY)
 
 
@@ -632,7 +654,7 @@ def large_of_several(program, words):
     """Where of several files one is too large for little memory, and the one before isn't done, or the one after is."""
     with program.room({"a.fits": FIRST, "c.fits": FIRST}, SHM) as room:
         make_image(f"{room}/b.fits", LARGE)
-        script = "get 1 NAXIS\nfill 1 1:1 4\nget 1 NAXIS"
+        script = "get 1 NAXIS\nfill 1 1:1 4\nreshape 1 i16 3\nget 1 NAXIS"
         ran = in_little_memory(program, [*words, "a.fits", "b.fits", "c.fits"], room, script)
         printed = b"a.fits:integer 1\na.fits:integer 1\nb.fits:integer 1\n"
         done = FOURTH["a.fits"] if words[0] == "edit" else FIRST
@@ -647,15 +669,16 @@ def small_files(room, large):
 
 
 def huge_piped(program):
-    """Where a keyword of a huge file isn't set in little memory, or another byte is another one."""
+    """Where a keyword of a huge file, and a pixel past 2^32 others, isn't set in little memory, or another byte is another one."""
     with program.room({}, SHM) as room:
         make_image(f"{room}/in.fits", HUGE)
         reading, writing = os.pipe()
-        typed = limited(program, ["edit", "-e", OBJECT, "in.fits", f"/dev/fd/{writing}"])
+        typed = limited(program, ["edit", "-e", OBJECT, "-e", f"fill 1 {2**32 + 1}:{2**32 + 1} 3", "in.fits", f"/dev/fd/{writing}"])
         with conversing(typed, room, [writing]) as ran:
             os.close(writing)
             with open(reading, "rb") as pipe:
-                yield from differences(image_of(pipe), **of_image(HUGE, "OBJECT  = 'M31     '"))
+                image = of_image(HUGE, "OBJECT  = 'M31     '")
+                yield from differences(image_of(pipe), **image | {"ones": image["ones"] | {2**32: 3}})
             told = ran.communicate()
         yield from differences(Ran(ran.returncode, *told, None), status=0, printed=b"", reported=b"")
 

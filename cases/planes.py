@@ -1,6 +1,7 @@
 """Data units beside plain loops: their statistics and sums, and rectangles that are filled, written and read."""
 import itertools
 import math
+import struct
 
 from fits import BLOCK_LEN, header
 from program import differences
@@ -117,7 +118,7 @@ def statistics(pixels, blank):
 
 def datasum(unit):
     """The sum of a data unit's words of 32 bits, with end-around carry."""
-    total = sum(int.from_bytes(unit[at : at + 4], "big") for at in range(0, len(unit), 4))
+    total = sum(struct.unpack(f">{len(unit) // 4}I", unit))
     while total >> 32:
         total = (total & 0xFFFFFFFF) + (total >> 32)
     return total

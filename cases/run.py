@@ -33,6 +33,7 @@ import one_file
 import openings
 import pairs
 import peers
+import pieces
 import pixel_edits
 import planes
 import program
@@ -69,6 +70,7 @@ TABLES = [
     faults,
     one_file,
     again,
+    pieces,
     odd_places,
     saving,
     safe_saving,

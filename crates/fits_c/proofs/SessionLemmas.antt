@@ -17,6 +17,6 @@ ready_held (Get hdu name) hdus held = tt
 ready_held (Positions hdu name) hdus held = tt
 ready_held Report hdus held = all_seen_held hdus held
 ready_held (Statistics hdu) hdus held = so_counted hdu hdus held
-ready_held (Rectangle hdu lo hi) hdus held = so_pixels hdu hdus held
+ready_held (Rectangle hdu lo hi) hdus held = so_pixels lo hi hdu hdus held
 ready_held (Sums hdu) hdus held = so_seen hdu hdus held
 ready_held (Kept hdu) hdus held = tt

@@ -5,10 +5,9 @@ use Rattle.fits_hdu.specs.State.{HduState, hdu_at, IsSeen}
 use Rattle.fits_making.specs.Keeping.{vouched_one}
 use Rattle.fits_passing.specs.File.{FileParts}
 use Rattle.fits_passing.specs.Hdu.{HduParts}
-use Rattle.fits_session.specs.Away.{AllLie}
 use Rattle.fits_session.specs.Marked.{guarded, unmarked, vouched, Marked}
 use Rattle.fits_session.specs.Session.{absences_of, file_of, hdus_of, kept_of, marked_of, session_at, SessionState}
-use Rattle.fits_session.proofs.AwayLemmas.{kept_at_told}
+use Rattle.fits_session.proofs.LoadedLemmas.{kept_at_told}
 use Rattle.fits_session.proofs.HeaderLemmas.{headers_told, number_alike}
 use Rattle.fits_session.proofs.KeptLemmas.{parts_same_at}
 use Rattle.fits_passing.specs.declared.look.Look.TheVariants.{All as LookAll}
@@ -38,12 +37,12 @@ with_parts tables us vs tail others kept marks same_parts same_tail same_marks =
 
 -- a file with its first marks has them over each that its reads may be of
 pub first_over : (terms : Terms) (told : List ℕ) (old new : SessionState) → guarded terms.tables (marked_of new) ≡ marked_first terms (file_of old) → absences_of new.hdus ≡ absences_of old.hdus
-    → (terms.sums ≡ true → All IsSeen old.hdus) → AllLie told old.hdus → guarded terms.tables (marked_of (session_at told new)) ≡ marked_first terms (file_of (session_at told old))
-first_over terms told old new marks away seen lie =
+    → (terms.sums ≡ true → All IsSeen old.hdus) → guarded terms.tables (marked_of (session_at told new)) ≡ marked_first terms (file_of (session_at told old))
+first_over terms told old new marks away seen =
     let count : length (hdus_of (map (hdu_at told) old.hdus)) ≡ length (hdus_of old.hdus) = number_alike (file_of (session_at told old)) (file_of old) (headers_told told old) in
     let kept : kept_of (map (hdu_at told) new.hdus) ≡ first_kept terms.sums (file_of (session_at told old)) =
     kept_at_told told new.hdus ∙ ap (λ (it : Marked). it.kept) marks
-    ∙ kept_alike terms.sums (file_of old) (file_of (session_at told old)) (λ all. seen_file told old (seen all) lie) count in
+    ∙ kept_alike terms.sums (file_of old) (file_of (session_at told old)) (λ all. seen_file told old (seen all)) count in
     with_parts terms.tables (hdus_of (map (hdu_at told) new.hdus)) (hdus_of (map (hdu_at told) old.hdus)) new.tail old.tail (kept_of (map (hdu_at told) new.hdus)) (first_kept terms.sums (file_of (session_at told old)))
     (parts_same_at told new.hdus old.hdus (ap (λ (it : Marked). it.file.hdus) marks) away) (ap (λ (it : Marked). it.file.tail) marks) kept
 

@@ -34,7 +34,7 @@ use Rattle.fits_session.specs.Marked.{column_refusal, edit_keeps, guarded, is_ke
 use Rattle.fits_session.specs.Query.{array_in, datasum_in, in_hdu, kind_in, positions_in, rect_in, stats_in, value_in, verdicts_in}
 use Rattle.fits_session.specs.Refusal.{refusal_in, EditNeedsMemory}
 use Rattle.fits_session.specs.Session.{absences_after, absences_of, file_of, kept_of, marked_of, session_at, SessionState}
-use Rattle.fits_session.proofs.AwayLemmas.{kept_at_told}
+use Rattle.fits_session.proofs.LoadedLemmas.{kept_at_told}
 use Rattle.fits_session.proofs.HeaderLemmas.{header_of, headers_of, headers_told, keeps_alike, places_alike, value_alike}
 use Rattle.fits_session.proofs.ToldLemmas.{any_after, any_refusal, any_same, kept_told, offsets_told, rect_told, seen_told_all, seen_told_hdu, stats_told}
 use Rattle.fits_script.specs.declared.command.Command.{Command}
@@ -116,7 +116,7 @@ module _ (tables : Bool) (told : List ℕ) (session : SessionState) (whole : IsF
   query_over (Get hdu name) ready query = asked_other it over (λ said. value_line said.0 said.1) (value_in it.file hdu name) (value_in over.file hdu name) (value_alike over.file it.file (headers_told told session) hdu name)
   query_over (Positions hdu name) ready query = asked_other it over places_line (some_places (positions_in it.file hdu name)) (some_places (positions_in over.file hdu name)) (ap some_places (places_alike over.file it.file (headers_told told session) hdu name))
   query_over Report ready query =
-      ap (λ (us : List HduParts). let file : FileParts = record { hdus = us; tail = session.tail } in Ok (record { text = report_text level.All [] (report_of file); left = over })) (seen_told_all told session.hdus ready lie)
+      ap (λ (us : List HduParts). let file : FileParts = record { hdus = us; tail = session.tail } in Ok (record { text = report_text level.All [] (report_of file); left = over })) (seen_told_all told session.hdus ready)
   query_over (Statistics hdu) ready query = asked_other it over statistics_line (stats_in it.file hdu) (stats_in over.file hdu) (stats_told told session.hdus session.tail lie whole described hdu ready)
   query_over (Rectangle hdu lo hi) ready query = asked_other it over values_line (rect_in it.file hdu lo hi) (rect_in over.file hdu lo hi) (rect_told told session.hdus session.tail lie whole described hdu lo hi ready)
   query_over (Sums hdu) ready query = sums_over hdu (seen_told_hdu told session.hdus session.tail lie hdu ready)
@@ -314,5 +314,5 @@ queries_told told it line taken =
     sym (queries_over told it line ∙ ap (λ (b : Bool). if b then queries_for (file_of it.session) line else None) taken)
 
 -- where all was looked at, the file is the same over each that its reads may be of
-pub seen_file : (told : List ℕ) (session : SessionState) → All IsSeen session.hdus → AllLie told session.hdus → file_of (session_at told session) ≡ file_of session
-seen_file told session seen lie = ap (λ (us : List HduParts). let file : FileParts = record { hdus = us; tail = session.tail } in file) (seen_told_all told session.hdus seen lie)
+pub seen_file : (told : List ℕ) (session : SessionState) → All IsSeen session.hdus → file_of (session_at told session) ≡ file_of session
+seen_file told session seen = ap (λ (us : List HduParts). let file : FileParts = record { hdus = us; tail = session.tail } in file) (seen_told_all told session.hdus seen)

@@ -17,7 +17,7 @@ use Rattle.fits_unit.specs.declared.again.CopyFault.TheVariants.{Failed, Changed
 use Rattle.fits_passing.specs.declared.look.Look.{Look}
 use Rattle.fits_passing.specs.declared.look.Look.TheVariants.{All as LookAll, Headers as LookHeaders}
 use Rattle.fits_script.specs.declared.line_reading.LineReading.{LineReading}
-use Rattle.fits_session.specs.Away.{in_file, AllLie, FileHasTotal, IsTold, LieStill, LoadEach, LoadsAll, LoadsAlone, LoadsAt, LoadsFor}
+use Rattle.fits_session.specs.Away.{in_file, load_times, AllLie, FileHasTotal, IsTold, LieStill, LoadEach, LoadsAll, LoadsAlone, LoadsAt, LoadsFor}
 use Rattle.fits_session.specs.Edit.{changed_at}
 use Rattle.fits_passing.specs.File.{file_bytes}
 use Rattle.fits_session.specs.Marked.{guarded, Marked}
@@ -130,37 +130,37 @@ pub like_guarded : (tables : Bool) (one : SessionState) (other : Marked) → IsL
 like_guarded tables one other like = record { hdus = like.hdus; tail = like.tail; kept = like.kept }
 
 -- an HDU whose data were loaded is like the one before
-loaded_hdu : (old new : HduState) → Loads old new → IsLikeHdu old (parts_of new)
+loaded_hdu : {times : ℕ} (old new : HduState) → Loads times old new → IsLikeHdu old (parts_of new)
 loaded_hdu old new loads = record { header = ap (λ (s : HduState). s.header.header) loads.rest; size = loads.size; total = loads.total }
 
 -- as one of those of a file
-loaded_hdus : (i : ℕ) (now : HduState) (hdus : List HduState) → ((one : HduState) → slice_get hdus i ≡ Some one → Loads one now) → AreLike hdus (hdus_of (changed_at i (λ one. now) hdus))
+loaded_hdus : {times : ℕ} (i : ℕ) (now : HduState) (hdus : List HduState) → ((one : HduState) → slice_get hdus i ≡ Some one → Loads times one now) → AreLike hdus (hdus_of (changed_at i (λ one. now) hdus))
 loaded_hdus i now [] loads = tt
 loaded_hdus zero now (one ∷ hdus) loads = (loaded_hdu one now (loads one refl), like_hdus hdus)
 loaded_hdus (suc i) now (one ∷ hdus) loads = (like_hdu one, loaded_hdus i now hdus loads)
 
 -- their marks stay
-loaded_kept : (i : ℕ) (now : HduState) (hdus : List HduState) → ((one : HduState) → slice_get hdus i ≡ Some one → Loads one now) → kept_of (changed_at i (λ one. now) hdus) ≡ kept_of hdus
+loaded_kept : {times : ℕ} (i : ℕ) (now : HduState) (hdus : List HduState) → ((one : HduState) → slice_get hdus i ≡ Some one → Loads times one now) → kept_of (changed_at i (λ one. now) hdus) ≡ kept_of hdus
 loaded_kept i now [] loads = refl
 loaded_kept zero now (one ∷ hdus) loads = ap (λ k. k ∷ kept_of hdus) (ap (λ (s : HduState). s.kept) (loads one refl).rest)
 loaded_kept (suc i) now (one ∷ hdus) loads = ap (λ ks. one.kept ∷ ks) (loaded_kept i now hdus loads)
 
 -- so a file is like the one before, of which an HDU was loaded
-loaded_alone : (h : ℕ) (old new : SessionState) → LoadsAlone h old new → IsLike old (marked_of new)
-loaded_alone zero old new alone = rw alone.is (like_none old)
-loaded_alone (suc i) old new alone =
-    let loads : (one : HduState) → slice_get old.hdus i ≡ Some one → Loads one alone.now = λ one there. alone.loads i one (sym (add-one i)) there in
+loaded_alone : (times h : ℕ) (old new : SessionState) → LoadsAlone times h old new → IsLike old (marked_of new)
+loaded_alone times zero old new alone = rw alone.is (like_none old)
+loaded_alone times (suc i) old new alone =
+    let loads : (one : HduState) → slice_get old.hdus i ≡ Some one → Loads times one alone.now = λ one there. alone.loads i one (sym (add-one i)) there in
     rw alone.is (record { hdus = loaded_hdus i alone.now old.hdus loads; tail = refl; kept = loaded_kept i alone.now old.hdus loads })
 
 -- or none was
-pub loaded_at : (h : ℕ) (old new : SessionState) → LoadsAt h old new → IsLike old (marked_of new)
-loaded_at h old new (inl same) = rw same (like_none old)
-loaded_at h old new (inr alone) = loaded_alone h old new alone
+pub loaded_at : (times h : ℕ) (old new : SessionState) → LoadsAt times h old new → IsLike old (marked_of new)
+loaded_at times h old new (inl same) = rw same (like_none old)
+loaded_at times h old new (inr alone) = loaded_alone times h old new alone
 
 -- the same for an edit
 pub loaded_for : (edit : SessionEdit) (old new : SessionState) → LoadsFor edit old new → IsLike old (marked_of new)
 loaded_for (Hdu h edit) old new (inl same) = rw same (like_none old)
-loaded_for (Hdu h edit) old new (inr needed) = loaded_alone h old new needed.1
+loaded_for (Hdu h edit) old new (inr needed) = loaded_alone (load_times edit) h old new needed.1
 loaded_for (NewImage at kind axes) old new same = rw same (like_none old)
 loaded_for (RemoveHdu h) old new same = rw same (like_none old)
 

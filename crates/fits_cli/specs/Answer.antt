@@ -198,7 +198,7 @@ CommandWantsData file command = ⊥
 unfoldable pub IsReady : Command → List HduState → Type 0
 IsReady (Edit edit) hdus = IsReadyFor edit hdus
 IsReady (Statistics hdu) hdus = IsSoOf HasStats hdu hdus
-IsReady (Rectangle hdu lo hi) hdus = IsSoOf HasPixels hdu hdus
+IsReady (Rectangle hdu lo hi) hdus = IsSoOf (HasPixels lo hi) hdu hdus
 IsReady (Sums hdu) hdus = IsSoOf IsSeen hdu hdus
 IsReady Report hdus = All IsSeen hdus
 IsReady command hdus = Unit {0}

@@ -37,7 +37,7 @@ pub(crate) fn rectangle<H: Holder + Drop>(
     lo: Corner,
     hi: Corner,
 ) -> Result<Vec<u8>, Refusal>
-    requires { IsSoOf HasPixels hdu session.old.hdus }
+    requires { IsSoOf (HasPixels lo hi) hdu session.old.hdus }
     ensures ok { IfOk result (λ text. outcome_of (marked_of session.old) (Rectangle hdu lo hi)
         ≡ Ok (record { text = text.items; left = marked_of session.new })) }
     ensures err { IfErr result (CommandFails (marked_of session.old) (Rectangle hdu lo hi)) }

@@ -38,7 +38,9 @@ pub fn ready<H: Holder + Drop>(
     match command {
         Command::Edit(edit) => session.load_for(edit, log),
         Command::Statistics { hdu } => session.load_counts(*hdu, log),
-        Command::Rectangle { hdu, .. } => session.load_pixels(*hdu, log),
+        Command::Rectangle { hdu, lo, hi } => {
+            session.load_pixels(*hdu, lo.as_slice(), hi.as_slice(), log)
+        }
         Command::Sums { hdu } => session.know(*hdu, log),
         Command::Report => session.know_all(log),
         _ => Ok(()),

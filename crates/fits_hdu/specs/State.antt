@@ -8,13 +8,14 @@ use Rattle.fits_header.specs.State as header
 use Rattle.fits_image.specs.Kind.{kind_in}
 use Rattle.fits_image.specs.declared.kind.Kind.{Kind}
 use Rattle.fits_plane.specs.Plane.{PlaneState}
-use Rattle.fits_unit.specs.DataUnit.{Absence, unit_at, IsCounted, IsKnown}
+use Rattle.fits_plane.specs.Rectangle.{IsRectangle}
+use Rattle.fits_unit.specs.DataUnit.{Absence, unit_at, HasRectangle, IsCounted, IsKnown}
 use Rattle.fits_passing.specs.ExtensionName.{extension_name}
 use Rattle.fits_passing.specs.Hdu.{HduParts}
 use Rattle.fits_passing.specs.declared.called.ExtensionName.{ExtensionName}
 
 -- its header, its data unit, read as its cards say, where its name stands in a table of names, if its holder said so, whether that keeps
--- it stamped, and where its data unit lies, if it isn't in memory
+-- it stamped, and where its data unit lies, if not all of it is in memory
 pub record HduState : Type 0 where
   pub header : HeaderState
   pub plane : PlaneState
@@ -26,7 +27,7 @@ pub record HduState : Type 0 where
 abbrev pub parts_of : HduState → HduParts
 parts_of hdu = record { header = hdu.header.header; data_unit = hdu.plane.bytes }
 
--- the HDU in a file of these bytes: where its data unit isn't in memory it is what the file has at its place
+-- the HDU in a file of these bytes: where its data unit isn't known it is what the file has at its place
 abbrev pub hdu_at : List ℕ → HduState → HduState
 hdu_at told hdu = record hdu { plane = record hdu.plane { bytes = unit_at told hdu.plane.bytes hdu.absent } }
 
@@ -46,9 +47,18 @@ card_placed cards place = if nat_lt 0 place then card_at cards place else None
 abbrev pub name_of : HduState → Option ExtensionName
 name_of hdu = extension_name (is_primary hdu.header.shape.class) hdu.header.header.cards
 
--- its pixels are in memory, if it is an image of integers
-abbrev pub HasPixels : HduState → Type 0
-HasPixels hdu = (kind : Kind) → kind_in hdu.header.shape hdu.header.header.cards ≡ Some kind → hdu.absent ≡ None
+-- the pixels of a rectangle of it are in memory; where these corners make none, its data are known
+pub record HasCorners (lo hi : List ℕ) (hdu : HduState) : Type 0 where
+  pub seen : IsSeen hdu
+  pub pixels : IsRectangle hdu.header.shape.axes lo hi → HasRectangle hdu.header.shape.axes lo hi hdu.plane hdu.absent
+
+-- so it is, if it is an image of integers
+abbrev pub HasPixels : (lo hi : List ℕ) → HduState → Type 0
+HasPixels lo hi hdu = (kind : Kind) → kind_in hdu.header.shape hdu.header.header.cards ≡ Some kind → HasCorners lo hi hdu
+
+-- all of its pixels are, if it is one
+abbrev pub HasImage : HduState → Type 0
+HasImage hdu = (kind : Kind) → kind_in hdu.header.shape hdu.header.header.cards ≡ Some kind → hdu.absent ≡ None
 
 -- its statistics are known, if it is one
 abbrev pub HasStats : HduState → Type 0

@@ -1,5 +1,5 @@
 -- How much work the calls of an HDU are at most: cards read, blocks scanned, pixels read, nodes joined (own).
-use Rattle.std.specs.Prelude.{◌≡◌, ◌⊎◌, ℕ, ◌+◌, ◌*◌, ◌^◌, ◌≤◌, ℤ, List, ◌++◌, length, codes, true, false, Option, None, Some, if◌then◌else◌}
+use Rattle.std.specs.Prelude.{◌≡◌, ◌⊎◌, ℕ, ◌+◌, ◌*◌, ◌^◌, ◌≤◌, ℤ, List, [], ◌++◌, length, codes, true, false, Option, None, Some, if◌then◌else◌}
 use Rattle.std.specs.Ordering.{int_eq}
 use Rattle.std.specs.Option.{option_map_or}
 use Rattle.fits_value.specs.Says.{chain_length}
@@ -71,10 +71,12 @@ pub record IsOpened (more : ℕ) (hdu : HduState) : Type 0 where
   pub scans : IsScanned (opened_blocks hdu.plane.bytes hdu.absent) (plane_work hdu.plane)
   pub kept : hdu.kept ≡ false
 
--- a data unit lies at this place, and where it is known its statistics are too
+-- a data unit lies at this place, none of it is in memory, and where it is known its statistics are too
 pub record IsFrom (place : ℕ) (hdu : HduState) (it : Absence) : Type 0 where
   pub away : hdu.absent ≡ Some it
   pub place_is : it.place ≡ place
+  pub passed : it.passed ≡ hdu.plane.bytes
+  pub held : it.held ≡ []
   pub blank : it.known ≡ true → it.blank ≡ hdu.plane.layout.blank
 
 -- an HDU was opened whose data unit lies there
@@ -127,27 +129,27 @@ pub record IsRead (kept : ℕ) (old new : PixelWork) : Type 0 where
   pub scans : new.scans ≡ old.scans
   pub joins : new.joins ≡ old.joins
 
--- each of so many blocks was scanned once more at most, and no pixel read
-pub record IsLoaded (blocks : ℕ) (old new : PixelWork) : Type 0 where
+-- each of so many blocks was scanned so often more at most, and no pixel read
+pub record IsLoaded (times blocks : ℕ) (old new : PixelWork) : Type 0 where
   pub reads : new.reads ≡ old.reads
   pub more_scans : old.scans ≤ new.scans
-  pub scans : new.scans ≤ old.scans + blocks
+  pub scans : new.scans ≤ old.scans + times * blocks
   pub more_joins : old.joins ≤ new.joins
-  pub joins : (d : ℕ) → blocks ≤ 2 ^ d → new.joins ≤ old.joins + 2 ^ d
+  pub joins : (d : ℕ) → blocks ≤ 2 ^ d → new.joins ≤ old.joins + times * 2 ^ d
 
--- the data unit of an HDU was loaded, or came to be known, or stays as it is: it is as long and, where it was known, has the same total;
--- nothing else changes, and each of its blocks was scanned once more at most
-pub record Loads (old new : HduState) : Type 0 where
+-- the data unit of an HDU was loaded, or pieces of it, or came to be known, or stays as it is: it is as long and, where it was known, has
+-- the same total; nothing else changes, and each of its blocks was scanned so often more at most
+pub record Loads (times : ℕ) (old new : HduState) : Type 0 where
   pub total : IsSeen old → word_total new.plane.bytes ≡ word_total old.plane.bytes
   pub size : length new.plane.bytes ≡ length old.plane.bytes
   pub rest : new ≡ record old { plane = new.plane; absent = new.absent }
-  pub work : IsLoaded (block_count old.plane.bytes) (plane_work old.plane) (plane_work new.plane)
+  pub work : IsLoaded times (block_count old.plane.bytes) (plane_work old.plane) (plane_work new.plane)
 
 -- bytes have the total of an HDU whose data unit is known
 abbrev pub HasHduTotal : HduState → List ℕ → Type 0
 HasHduTotal one bytes = IsSeen one → word_total bytes ≡ word_total (hdu_bytes (parts_of one))
 
--- an HDU was written: exactly its header, and then its data unit, that in memory or what the reads from its place on gave
+-- an HDU was written: exactly its header, and then its data unit, what is in memory and what the reads from its place on gave
 pub record WritesHdu (one : HduState) (log log' : ReadLogState) (old new : SinkState) : Type 0 where
   pub unit : List ℕ
   pub are : IsUnitRead one.plane.bytes one.absent log log' unit

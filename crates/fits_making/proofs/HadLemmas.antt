@@ -1,20 +1,38 @@
 -- However the data unit of one HDU is had, it is had so still.
-use Rattle.std.proofs.Common.{◌≡◌, ◌∙◌, ap, sym, subst, ℕ, List, Option, None, Some}
+use Rattle.std.proofs.Common.{◌≡◌, ◌∙◌, ap, sym, subst, arith, ℕ, List, length, take, drop, Option, None, Some}
 use Rattle.std.specs.Prelude.{IfSome}
 use Rattle.fits_hdu.specs.State.{HduState, ReadsUpTo}
 use Rattle.fits_plane.specs.Plane.{PlaneState}
-use Rattle.fits_unit.specs.DataUnit.{IsKnown, LiesIn}
+use Rattle.fits_unit.specs.DataUnit.{Absence, IsKnown, Lies, LiesIn}
 use Rattle.fits_making.specs.Making.{Holding, IsHad, StaysHad}
 
--- one that lies where it lay, and has the bytes and the mark that it had, is had as it was
-pub had_same : (old new : HduState) → new.absent ≡ old.absent → new.plane.bytes ≡ old.plane.bytes → new.kept ≡ old.kept → StaysHad old new
-had_same old new place bytes mark holding p = record {
+-- another data unit that is as long lies in a file where one does
+lies_long : (told old new : List ℕ) (it : Absence) → length new ≡ length old → Lies told old it → Lies told new it
+lies_long told old new it size lies = record { there = omega (arith, lies.there, size); same = λ known. ap (λ n. take n (drop it.place told)) size ∙ lies.same known }
+
+-- whether it is there or in memory
+lies_in : (told old new : List ℕ) (absent : Option Absence) → length new ≡ length old → IfSome absent (Lies told old) → IfSome absent (Lies told new)
+lies_in told old new None size lies = tt
+lies_in told old new (Some it) size lies = lies_long told old new it size lies
+
+-- and whether the file is told or not
+lies_told : (told : Option (List ℕ)) (old new : HduState) → new.absent ≡ old.absent → length new.plane.bytes ≡ length old.plane.bytes → IfSome told (λ bytes. LiesIn bytes old.plane old.absent) → IfSome told (λ bytes. LiesIn bytes new.plane new.absent)
+lies_told None old new place size lies = tt
+lies_told (Some bytes) old new place size lies = rw place (lies_in bytes old.plane.bytes new.plane.bytes old.absent size lies)
+
+-- one that lies where it lay, with as many bytes and the mark that it had, is had as it was
+pub had_long : (old new : HduState) → new.absent ≡ old.absent → length new.plane.bytes ≡ length old.plane.bytes → new.kept ≡ old.kept → StaysHad old new
+had_long old new place size mark holding p = record {
   held = λ whole. place ∙ p.held whole;
-  lies = rw (place, bytes) p.lies;
+  lies = lies_told holding.told old new place size p.lies;
   kept = λ on. subst IsKnown (sym place) (p.kept (sym mark ∙ on));
 }
 
--- so is one whose cards were read
+-- so is one with the bytes that it had
+pub had_same : (old new : HduState) → new.absent ≡ old.absent → new.plane.bytes ≡ old.plane.bytes → new.kept ≡ old.kept → StaysHad old new
+had_same old new place bytes mark = had_long old new place (ap length bytes) mark
+
+-- and one whose cards were read
 pub had_read : (old new : HduState) (count : ℕ) → ReadsUpTo old new count → StaysHad old new
 had_read old new count read = had_same old new read.absent (ap (λ (plane : PlaneState). plane.bytes) read.plane) read.kept
 

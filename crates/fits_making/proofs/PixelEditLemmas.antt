@@ -25,7 +25,7 @@ use Rattle.fits_edit.specs.declared.hdu_edit.HduEdit.TheVariants.{Pixels}
 use Rattle.fits_edit.specs.declared.paint.Paint.{Paint}
 use Rattle.fits_making.specs.declared.refusal.Refusal.{Refusal}
 use Rattle.fits_making.proofs.KeepingLemmas.{hdu_long, padded_long}
-use Rattle.fits_making.proofs.HadLemmas.{had_held}
+use Rattle.fits_making.proofs.HadLemmas.{had_long}
 use Rattle.fits_making.proofs.MakingLemmas.{Lasts, fits, makes, makes_not}
 
 -- an HDU with a rectangle painted has as many bytes
@@ -107,15 +107,15 @@ may_made (Err why) p = absurd (cc)
 -- one that is made owes this
 pub paints : {X : Type 0} (lo hi : List ℕ) (paint : Paint) (bytes hdus : ℕ) (old mid new : HduState) (x : X) → IsHdu (is_primary old.header.shape.class) (parts_of old) → shape_of (is_primary old.header.shape.class) old.header.header.cards ≡ Ok old.header.shape
     → painted old.header.shape lo hi (plane_paint paint) (parts_of old) ≡ Ok (parts_of mid) → limit_refusal (length_with bytes (parts_of old) (padded_if old.kept (parts_of mid))) hdus ≡ None → mid.header.reads ≡ old.header.reads
-    → IsPatchedIn lo hi old mid → mid.entry ≡ old.entry → mid.kept ≡ old.kept → mid.absent ≡ None → mid.absent ≡ old.absent → IsFinished old.kept mid new
+    → IsPatchedIn lo hi old mid → mid.entry ≡ old.entry → mid.kept ≡ old.kept → mid.absent ≡ old.absent → IsFinished old.kept mid new
     → HduEditsTo {X = X} (Pixels lo hi paint) bytes hdus old new (Ok x)
 unfolding hdu_made
-paints lo hi paint bytes hdus old mid new x whole described is limits reads patched entry kept held place finished =
+paints lo hi paint bytes hdus old mid new x whole described is limits reads patched entry kept place finished =
     let primary : Bool = is_primary old.header.shape.class in
     let change = painted_hdu primary old.header.shape (parts_of old) lo hi (plane_paint paint) (parts_of mid) whole described is in
     makes old.kept (hdu_painted primary lo hi paint (parts_of old)) (HduNeedsMemory (Pixels lo hi paint)) 0 (HduWork primary (Pixels lo hi paint) (parts_of old)) (λ before after. after ≡ before) bytes hdus old mid new x whole change.0
     (made_by primary old.header.shape (parts_of old) lo hi paint (Ok (parts_of mid)) described is) limits (omega (arith, reads)) (omega (arith, reads))
-    (patches_by (shape_of primary old.header.header.cards) old.header.shape lo hi (parts_of old) (plane_work old.plane) (plane_work mid.plane) described patched) entry kept (λ holding p. had_held holding mid held) place finished
+    (patches_by (shape_of primary old.header.header.cards) old.header.shape lo hi (parts_of old) (plane_work old.plane) (plane_work mid.plane) described patched) entry kept (had_long old mid place change.2 kept) place finished
 
 -- a painted HDU that isn't kept keeps to the limits
 pub paint_within : (primary : Bool) (shape : Shape) (hdu made : HduParts) (lo hi : List ℕ) (paint : Paint) (bytes hdus : ℕ) → IsHdu primary hdu → shape_of primary hdu.header.cards ≡ Ok shape → painted shape lo hi (plane_paint paint) hdu ≡ Ok made → length (hdu_bytes hdu) ≤ bytes → is_within_limits bytes hdus ≡ true

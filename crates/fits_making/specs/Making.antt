@@ -86,7 +86,7 @@ HasArray one = (bits : ℕ) → array_bits one.header.shape ≡ Some bits → on
 -- the pixels that an edit of an HDU wants are in memory: those of an image, and for a reshape those of an array; for a stamp its data are
 -- known
 abbrev pub IsReadyTo : HduEdit → HduState → Type 0
-IsReadyTo (Pixels lo hi paint) one = HasPixels one
+IsReadyTo (Pixels lo hi paint) one = HasPixels lo hi one
 IsReadyTo (Reshape kind axes) one = HasArray one
 IsReadyTo Stamp one = IsSeen one
 IsReadyTo Keep one = IsSeen one

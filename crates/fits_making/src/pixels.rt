@@ -24,7 +24,7 @@ pub(crate) fn paint_pixels(
     hi: &Corner,
     paint: &Paint,
 ) -> Result<(), Refusal>
-    requires held { HasPixels hdu.old }
+    requires held { HasPixels lo.now hi.now hdu.old }
     requires known { hdu.old.kept ≡ true → IsSeen hdu.old }
     requires part { length (hdu_bytes (parts_of hdu.old)) ≤ len }
     requires within { is_within_limits len hdus ≡ true }
@@ -50,7 +50,7 @@ fn paint_kept(
     paint: &Paint,
 ) -> Result<(), Refusal>
     requires kept { hdu.old.kept ≡ true }
-    requires held { HasPixels hdu.old }
+    requires held { HasPixels lo.now hi.now hdu.old }
     requires known { hdu.old.kept ≡ true → IsSeen hdu.old }
     requires part { length (hdu_bytes (parts_of hdu.old)) ≤ len }
     requires within { is_within_limits len hdus ≡ true }

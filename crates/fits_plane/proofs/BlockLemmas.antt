@@ -116,16 +116,16 @@ untouched_case true h = elim (h refl) [ ]
 untouched_case false h = refl
 
 -- what a row of the rectangle is, in blocks
-record RowBlocks (axes lo hi : List ℕ) (side per n row first : ℕ) : Type 0 where
+pub record RowBlocks (axes lo hi : List ℕ) (side per n row first : ℕ) : Type 0 where
   -- a pixel of no earlier row stands at the row's first or later
-  later : (i : ℕ) → i < n → is_inside axes lo hi i ≡ true → row * side ≤ number axes lo hi i → first ≤ i
+  pub later : (i : ℕ) → i < n → is_inside axes lo hi i ≡ true → row * side ≤ number axes lo hi i → first ≤ i
   -- a pixel of this row stands at its last or earlier
-  sooner : (i : ℕ) → i < n → is_inside axes lo hi i ≡ true → row * side ≤ number axes lo hi i → number axes lo hi i < (row + 1) * side → i < first + side
+  pub sooner : (i : ℕ) → i < n → is_inside axes lo hi i ≡ true → row * side ≤ number axes lo hi i → number axes lo hi i < (row + 1) * side → i < first + side
   -- each block from the row's first to its last is touched
-  touched : (k : ℕ) → first / per ≤ k → k < (first + side - 1) / per + 1 → is_touched axes lo hi per n k ≡ true
+  pub touched : (k : ℕ) → first / per ≤ k → k < (first + side - 1) / per + 1 → is_touched axes lo hi per n k ≡ true
 
 -- by where the row begins
-row_blocks : (axes lo hi : List ℕ) (side per n row first : ℕ) → IsRectangle axes lo hi → product axes ≡ n → 0 < per → Row axes lo hi side row first → RowBlocks axes lo hi side per n row first
+pub row_blocks : (axes lo hi : List ℕ) (side per n row first : ℕ) → IsRectangle axes lo hi → product axes ≡ n → 0 < per → Row axes lo hi side row first → RowBlocks axes lo hi side per n row first
 row_blocks axes lo hi side per n row first r whole p w =
     let some : 0 < side = w.some in
     let f = in_row axes lo hi side row first first r w (omega arith) (omega (arith, some)) in

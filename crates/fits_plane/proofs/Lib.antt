@@ -5,6 +5,7 @@ pub mod CornerLemmas
 pub mod ExchangeLemmas
 pub mod JoinLemmas
 pub mod LeafLemmas
+pub mod MarkLemmas
 pub mod PaintLemmas
 pub mod PartLemmas
 pub mod PathLemmas

@@ -13,7 +13,7 @@ use Rattle.fits_plane.proofs.PlaceLemmas.{one_if, place-number, rank-number, ran
 use Rattle.fits_plane.proofs.RowLemmas.{Row, row_of, rectangle_size-rows}
 
 -- what is made of two ranges, where it is the same of each place
-map-ranges : {X : Type 0} (f g : ℕ → X) (a b n : ℕ) → ((x : ℕ) → x < n → f (a + x) ≡ g (b + x)) → map f (range_with_len a n) ≡ map g (range_with_len b n)
+pub map-ranges : {X : Type 0} (f g : ℕ → X) (a b n : ℕ) → ((x : ℕ) → x < n → f (a + x) ≡ g (b + x)) → map f (range_with_len a n) ≡ map g (range_with_len b n)
 map-ranges f g a b zero h = refl
 map-ranges f g a b (suc n) h =
     let p : a + 0 ≡ a = omega arith in

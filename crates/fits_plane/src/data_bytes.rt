@@ -2,6 +2,7 @@ ghost use Rattle.std.specs.Prelude.{◌≡◌, ◌≤◌, ◌<◌, ◌*◌, ◌+
 ghost use Rattle.fits_pixels.specs.Layout.{block_count};
 ghost use Rattle.fits_pixels.specs.Pixels.{pixel, IsStorable};
 
+use crate::data_counts::DataCounts;
 use crate::painting::Painting;
 use crate::pixel_reads::value_of;
 use crate::pixel_writer::PixelWriter;
@@ -18,9 +19,9 @@ use std::marker::Model;
 /// far.
 ///
 /// Outside this module they are reached by these functions alone: each counts what it looks at. The
-/// fill is looked at without a count.
+/// fill is looked at without a count, and so is what goes elsewhere by `emit` or `as_slice`.
 #[derive(Drop)]
-pub(crate) struct DataBytes {
+pub struct DataBytes {
     bytes: Vec<u8>,
     scans: Count,
     reads: Count,
@@ -39,18 +40,18 @@ impl Model for DataBytes {
 }
 
 impl DataBytes {
-    ghost use Rattle.std.specs.Prelude.{◌≡◌, ◌≤◌, ◌<◌, ◌*◌, ◌+◌, ◌+ℤ◌, ◌^◌, ◌↔◌, ℕ, true, drop, length, slice_index, unsigned_abs, All, IsTrue, OnOk, OnErr};
+    ghost use Rattle.std.specs.Prelude.{◌≡◌, ◌≤◌, ◌<◌, ◌*◌, ◌+◌, ◌+ℤ◌, ◌^◌, ◌↔◌, ℕ, false, true, count_by, drop, length, slice_index, slice_index_or, unsigned_abs, All, IsTrue, OnOk, OnErr};
     ghost use Rattle.fits_stream.specs.Stream.{Prints, PrintsFront};
     ghost use Rattle.fits_pixels.specs.Layout.{IsLayout, block_count, block_pixels};
     ghost use Rattle.fits_pixels.specs.Block.{leaf_of};
     ghost use Rattle.fits_pixels.specs.Pixels.{pixel, IsStorable, IsWidth};
-    ghost use Rattle.fits_plane.specs.Leaves.{AreLeaves};
+    ghost use Rattle.fits_plane.specs.Leaves.{leaf_unit, AreLeaves, IsLeaf};
     ghost use Rattle.fits_plane.specs.Painting.{number_of, Suits};
     ghost use Rattle.fits_plane.specs.Rectangle.{IsWritten};
     ghost use Rattle.fits_plane.specs.ShortRows.{CanPaint, RowWritten};
 
     /// Bytes that nothing looked at yet.
-    pub(crate) fn new(bytes: Vec<u8>) -> DataBytes
+    pub fn new(bytes: Vec<u8>) -> DataBytes
         ensures { result ≡ record { bytes = bytes.items; scans = 0; reads = 0 } }
     {
         DataBytes {
@@ -60,14 +61,32 @@ impl DataBytes {
         }
     }
 
-    pub(crate) fn len(&self) -> usize
+    pub fn len(&self) -> usize
         ensures { result ≡ length self.now.bytes }
     {
         self.bytes.len()
     }
 
+    /// The bytes, to be copied or compared elsewhere. That isn't counted.
+    pub fn as_slice(&self) -> &[u8]
+        ensures { result.now ≡ self.now.bytes }
+    {
+        self.bytes.as_slice()
+    }
+
+    /// How often they were looked at. The bytes are let go.
+    pub fn into_counts(self) -> DataCounts
+        ensures scans { result.scans.total ≡ self.scans }
+        ensures reads { result.reads.total ≡ self.reads }
+    {
+        DataCounts {
+            scans: self.scans,
+            reads: self.reads,
+        }
+    }
+
     /// That each is below 256, which contracts are told of bytes where a body reads them.
-    pub(crate) fn are_bytes(&self)
+    pub fn are_bytes(&self)
         ensures { (k : ℕ) → slice_index self.now.bytes k < 256 }
     {
         read_bytes(self.bytes.as_slice());
@@ -90,8 +109,19 @@ impl DataBytes {
         self.scans = scans;
     }
 
+    /// Counts on from how often the same bytes were looked at elsewhere.
+    pub(crate) fn go_on(&mut self, scans: Count, reads: Count)
+        ensures { self.new ≡ record self.old {
+          scans = scans.total + self.old.scans;
+          reads = reads.total + self.old.reads;
+        } }
+    {
+        self.scans.join(scans);
+        self.reads.join(reads);
+    }
+
     /// Scans block k.
-    pub(crate) fn scan(&mut self, layout: Layout, k: usize) -> Leaf
+    pub fn scan(&mut self, layout: Layout, k: usize) -> Leaf
         requires layout { IsLayout layout self.old.bytes }
         requires within { 2880 * k + 2880 ≤ length self.old.bytes }
         ensures leaf { result ≡ leaf_of layout self.old.bytes k }
@@ -118,8 +148,34 @@ impl DataBytes {
         tree.refresh(|k| scan_block(bytes, layout, k));
     }
 
+    /// Scans each block that is marked into its leaf, and joins each node above one of them once.
+    pub fn scan_marked(&mut self, layout: Layout, marks: &[bool], tree: &mut Tree<Leaf>)
+        requires layout { IsLayout layout self.old.bytes }
+        requires whole { length self.old.bytes ≡ 2880 * length tree.old.leaves }
+        requires long { length marks.now ≡ length tree.old.leaves }
+        ensures long { length tree.new.leaves ≡ length tree.old.leaves }
+        ensures made { (k : ℕ) → slice_index_or marks.now k false ≡ true
+            → IsLeaf layout self.old.bytes tree.new.leaves k }
+        ensures kept { (k : ℕ) → slice_index_or marks.now k false ≡ false
+            → slice_index_or tree.new.leaves k leaf_unit
+            ≡ slice_index_or tree.old.leaves k leaf_unit }
+        ensures work { self.new ≡ record self.old {
+          scans = self.old.scans + count_by (λ b. b) marks.now;
+        } }
+        ensures more { tree.old.joins ≤ tree.new.joins }
+        ensures few { (d : ℕ) → length tree.old.leaves ≤ 2 ^ d
+            → tree.new.joins ≤ tree.old.joins + count_by (λ b. b) marks.now * d }
+        ensures most { (d : ℕ) → length tree.old.leaves ≤ 2 ^ d
+            → tree.new.joins + 1 ≤ tree.old.joins + 2 ^ d }
+    {
+        self.scans
+            .add(marks.iter().filter(|marked| **marked).count());
+        let bytes = self.bytes.as_slice();
+        tree.refresh_marked(marks, |k| scan_block(bytes, layout, k));
+    }
+
     /// Reads stored pixel i.
-    pub(crate) fn pixel(&mut self, width: usize, i: usize) -> i64
+    pub fn pixel(&mut self, width: usize, i: usize) -> i64
         requires width { IsWidth width }
         requires within { (i + 1) * width ≤ length self.old.bytes }
         ensures value { result ≡ pixel width self.old.bytes i }
@@ -172,6 +228,33 @@ impl DataBytes {
         pixel_writes::paint_rows(self.bytes.as_mut_slice(), layout, painting);
     }
 
+    /// Paints a run of pixels, the first of which has this rank.
+    pub fn paint_run(
+        &mut self,
+        width: usize,
+        start: usize,
+        count: usize,
+        painting: &Painting,
+        rank: usize,
+    )
+        requires width { IsWidth width }
+        requires within { (start + count) * width ≤ length self.old.bytes }
+        requires some { 0 < count }
+        requires paint { CanPaint width painting.now rank count }
+        ensures written { RowWritten width start count
+            (λ x. number_of painting.now (rank + x)) self.old.bytes self.new.bytes }
+        ensures work { self.new ≡ record self.old { bytes = self.new.bytes } }
+    {
+        pixel_writes::paint_row(
+            self.bytes.as_mut_slice(),
+            width,
+            start,
+            count,
+            painting,
+            rank,
+        );
+    }
+
     /// Paints pixels of block k, of which this is kept, and says what is kept of it then. One scan is
     /// counted for it, whether all of the block is looked at or not.
     pub(crate) fn paint_block(
@@ -204,7 +287,7 @@ impl DataBytes {
     }
 
     /// Writes the bytes, or a prefix of them where a call failed.
-    pub(crate) fn emit<W: Sink>(&self, sink: &mut W) -> io::Result<()>
+    pub fn emit<W: Sink>(&self, sink: &mut W) -> io::Result<()>
         ensures ok { OnOk result (Prints self.now.bytes (W.state sink.old) (W.state sink.new)) }
         ensures err { OnErr result (PrintsFront self.now.bytes
             (W.state sink.old) (W.state sink.new)) }

@@ -21,7 +21,7 @@ use fits_stream::Count;
 use std::alloc::{AllocError, Global};
 
 /// The summaries of all blocks.
-pub(crate) fn leaves_of(
+pub fn leaves_of(
     alloc: Global,
     store: &mut DataBytes,
     layout: Layout,

@@ -3,10 +3,12 @@
 
 mod converting;
 mod data_bytes;
+mod data_counts;
 mod exchange;
 pub mod laws;
 mod leaves;
 mod lent_paint;
+mod marked;
 mod nodes;
 mod painting;
 mod parts;
@@ -20,10 +22,14 @@ mod short_rows;
 mod tree;
 mod values;
 
+pub use data_bytes::DataBytes;
+pub use data_counts::DataCounts;
+pub use leaves::leaves_of;
 pub use lent_paint::LentPaint;
 pub use painting::Painting;
+pub use pixel_reads::{put_value, value_of};
 pub use plane::Plane;
 pub use plane_room::PlaneRoom;
-pub use rectangle::{is_rectangle, rectangle_len};
+pub use rectangle::{is_rectangle, rectangle_len, row_len, row_start, rows};
 pub use tree::Tree;
 pub use values::Values;

@@ -8,7 +8,7 @@ use crate::data_bytes::DataBytes;
 use crate::rectangle::{row_len, row_start, rows};
 
 /// The value of a stored number.
-pub(crate) fn value_of(stored: i64, offset: i128) -> i128
+pub fn value_of(stored: i64, offset: i128) -> i128
     requires { unsigned_abs offset ≤ 2 ^ 64 }
     ensures { result ≡ stored +ℤ offset }
 {
@@ -16,7 +16,7 @@ pub(crate) fn value_of(stored: i64, offset: i128) -> i128
 }
 
 /// Puts a value after the others, in room that is reserved.
-fn put_value(values: &mut Vec<i128>, value: i128)
+pub fn put_value(values: &mut Vec<i128>, value: i128)
     requires { vec_len values.old < vec_capacity values.old }
     ensures items { values.new.items ≡ values.old.items ++ value ∷ [] }
     ensures len { vec_len values.new ≡ vec_len values.old + 1 }

@@ -140,6 +140,18 @@ impl Plane {
         self.store.count_on(passed);
     }
 
+    /// Counts on from what was done on the same bytes elsewhere.
+    pub fn go_on(&mut self, scans: Count, reads: Count, joins: Count)
+        ensures { self.new ≡ record self.old {
+          scans = scans.total + self.old.scans;
+          reads = reads.total + self.old.reads;
+          joins = joins.total + self.old.joins;
+        } }
+    {
+        self.store.go_on(scans, reads);
+        self.tree.go_on(joins);
+    }
+
     pub fn layout(&self) -> Layout
         ensures value { result ≡ self.now.layout }
         ensures fits { IsLayout result self.now.bytes }

@@ -39,7 +39,7 @@ pub fn rectangle_len(axes: &[u64], lo: &[u64], hi: &[u64]) -> u64
 }
 
 /// How many pixels it has in a row, which goes along the first axis.
-pub(crate) fn row_len(axes: &[u64], lo: &[u64], hi: &[u64]) -> u64
+pub fn row_len(axes: &[u64], lo: &[u64], hi: &[u64]) -> u64
     requires rectangle { IsRectangle axes.now lo.now hi.now }
     requires small { product axes.now < 2 ^ 62 }
     ensures value { result ≡ row_size lo.now hi.now }
@@ -54,7 +54,7 @@ pub(crate) fn row_len(axes: &[u64], lo: &[u64], hi: &[u64]) -> u64
 }
 
 /// How many rows it has.
-pub(crate) fn rows(axes: &[u64], lo: &[u64], hi: &[u64]) -> u64
+pub fn rows(axes: &[u64], lo: &[u64], hi: &[u64]) -> u64
     requires rectangle { IsRectangle axes.now lo.now hi.now }
     requires small { product axes.now < 2 ^ 62 }
     ensures { result ≡ row_count lo.now hi.now }
@@ -82,7 +82,7 @@ fn place_of(axes: &[u64], lo: &[u64], hi: &[u64], number: u64) -> u64
 }
 
 /// The first pixel of a row.
-pub(crate) fn row_start(axes: &[u64], lo: &[u64], hi: &[u64], row: u64) -> usize
+pub fn row_start(axes: &[u64], lo: &[u64], hi: &[u64], row: u64) -> usize
     requires rectangle { IsRectangle axes.now lo.now hi.now }
     requires within { row < row_count lo.now hi.now }
     requires small { product axes.now < 2 ^ 62 }

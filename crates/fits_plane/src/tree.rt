@@ -91,6 +91,20 @@ impl<S: Summary> Tree<S> {
         self.used = used;
     }
 
+    /// How many nodes were joined. The leaves are let go.
+    pub fn into_joins(self) -> Count
+        ensures { result.total ≡ self.joins }
+    {
+        self.joins
+    }
+
+    /// Counts on from the joins of another.
+    pub(crate) fn go_on(&mut self, joins: Count)
+        ensures { self.new ≡ record self.old { joins = joins.total + self.old.joins } }
+    {
+        self.joins.join(joins);
+    }
+
     /// The summaries of all leaves, joined in order.
     pub fn root(&self) -> S
         ensures { result ≡ all_joined S.empty S.joined self.now.leaves }

@@ -1,9 +1,8 @@
 -- Edits of a file of which some data units stand for others that are as long: those that look at none of them.
-use Rattle.std.proofs.Common.{◌≡◌, ℕ, ◌+◌, ◌-◌, ◌≤◌, Bool, true, false, List, [], ◌∷◌, ◌++◌, length, map, get_or, take, drop, refl, ap, sym, ◌∙◌, subst, arith, All, Option, None, Some, zero, suc, inl, inr}
-use Rattle.std.specs.Prelude.{◌⊎◌, ◌==◌, not, IfSome, Result, Ok, Err, if◌then◌else◌}
-use Rattle.std.specs.Option.{option_map}
+use Rattle.std.proofs.Common.{◌≡◌, ℕ, ◌+◌, ◌-◌, Bool, true, false, List, [], ◌∷◌, ◌++◌, length, map, get_or, take, drop, refl, ap, sym, ◌∙◌, subst, arith, Option, None, Some, zero, suc, inl, inr}
+use Rattle.std.specs.Prelude.{◌⊎◌, IfSome, Result, Ok, Err, if◌then◌else◌}
 use Rattle.std.proofs.lemmas.List.Elements.{All-head, All-tail}
-use Rattle.std.specs.List.{insert, remove, slice_get}
+use Rattle.std.specs.List.{slice_get}
 use Rattle.std.proofs.lemmas.List.{length-append}
 use Rattle.fits_card.specs.Change.{cards_after}
 use Rattle.fits_card.specs.Header.{Header, header_bytes}
@@ -13,20 +12,20 @@ use Rattle.fits_rules.specs.declared.array_shape.Shape.{Shape}
 use Rattle.fits_image.specs.Kind.{array_kind, kind_in}
 use Rattle.fits_plane.specs.declared.lent_paint.LentPaint.{LentPaint}
 use Rattle.fits_passing.specs.Hdu.{HduParts, hdu_after, hdu_bytes, keeps_shape}
-use Rattle.fits_passing.specs.File.{is_primary_hdu, FileParts, file_bytes, joined_hdus}
+use Rattle.fits_passing.specs.File.{is_primary_hdu, file_bytes, joined_hdus}
 use Rattle.fits_hdu.specs.Pixels.{painted, painted_by}
-use Rattle.fits_hdu.specs.Reshape.{reshaped, reshaped_by}
+use Rattle.fits_hdu.specs.Reshape.{reshaped}
 use Rattle.fits_image.specs.declared.kind.Kind.{Kind}
 use Rattle.fits_making.specs.CardEdit.{change_of}
-use Rattle.fits_making.specs.HduEdit.{hdu_changed, hdu_made, hdu_painted, hdu_reshaped, pixels_made, shaped}
+use Rattle.fits_making.specs.HduEdit.{hdu_changed, hdu_made, hdu_reshaped, pixels_made, shaped}
 use Rattle.fits_edit.specs.Paint.{plane_paint}
 use Rattle.fits_edit.specs.declared.hdu_edit.HduEdit.{HduEdit}
 use Rattle.fits_edit.specs.declared.hdu_edit.HduEdit.TheVariants.{Cards, Keep, Pixels, Release, Reshape, Stamp}
 use Rattle.fits_making.specs.declared.refusal.Refusal.{Refusal}
 use Rattle.fits_making.specs.declared.refusal.Refusal.TheVariants as refusal
-use Rattle.fits_unit.specs.DataUnit.{unit_at, Absence, IsKnown, Lies, LiesIn}
+use Rattle.fits_unit.specs.DataUnit.{unit_at, Absence, Lies}
 use Rattle.fits_unit.proofs.AgainLemmas.{there_long}
-use Rattle.fits_hdu.specs.State.{HduState, hdu_at, parts_of, IsSeen}
+use Rattle.fits_hdu.specs.State.{HduState, hdu_at, parts_of}
 use Rattle.fits_making.specs.Making.{IsHad}
 use Rattle.fits_session.specs.Away.{in_file, AllLie}
 use Rattle.fits_session.specs.Session.{hdus_of}
@@ -34,7 +33,7 @@ use Rattle.fits_making.specs.Keeping.{padded, padded_if}
 use Rattle.fits_making.specs.Refusal.{limit_refusal}
 use Rattle.fits_session.proofs.ChangeLemmas.{length-changed}
 use Rattle.fits_session.specs.Refusal.{made_refusal, refusal_in, size_refusal}
-use Rattle.fits_session.specs.Edit.{changed_at, changed_of, hdu_of, with_hdu}
+use Rattle.fits_session.specs.Edit.{changed_at, hdu_of, with_hdu}
 
 -- an HDU with other data, if there are others
 abbrev pub filled : Option (List ℕ) → HduParts → HduParts
@@ -147,35 +146,31 @@ unlooked primary Release hdu unit p = refl
 
 -- ---- a session over a file
 
--- what stands in place of the bytes of a data unit that isn't in memory
+-- the bytes of a data unit in a file stand in place of those that are in memory, or known
 abbrev pub fill_of : List ℕ → HduState → Option (List ℕ)
-fill_of told one = option_map (λ (it : Absence). take (length one.plane.bytes) (drop it.place told)) one.absent
+fill_of told one = Some (unit_at told one.plane.bytes one.absent)
 
 abbrev pub fills_of : List ℕ → List HduState → List (Option (List ℕ))
 fills_of told hdus = map (fill_of told) hdus
 
--- so an HDU is filled in a file
-filled_one : (told : List ℕ) (header : Header) (bytes : List ℕ) (absent : Option Absence)
-    → (let u : HduParts = record { header = header; data_unit = unit_at told bytes absent } in u) ≡ filled (option_map (λ (it : Absence). take (length bytes) (drop it.place told)) absent) (record { header = header; data_unit = bytes })
-filled_one told header bytes None = refl
-filled_one told header bytes (Some it) = refl
-
--- and all of them
+-- so HDUs are filled in a file
 pub filled_at : (told : List ℕ) (hdus : List HduState) → hdus_of (map (hdu_at told) hdus) ≡ all_filled (fills_of told hdus) (hdus_of hdus)
 filled_at told [] = refl
-filled_at told (hdu ∷ hdus) =
-    ap (λ (u : HduParts). u ∷ hdus_of (map (hdu_at told) hdus)) (filled_one told hdu.header.header hdu.plane.bytes hdu.absent)
-    ∙ ap (λ (us : List HduParts). filled (fill_of told hdu) (parts_of hdu) ∷ us) (filled_at told hdus)
+filled_at told (hdu ∷ hdus) = ap (λ (us : List HduParts). filled (fill_of told hdu) (parts_of hdu) ∷ us) (filled_at told hdus)
 
--- they are as long where they lie there
-long_one : (told : List ℕ) (hdu : HduParts) (absent : Option Absence) → IfSome absent (Lies told hdu.data_unit) → length (filled (option_map (λ (it : Absence). take (length hdu.data_unit) (drop it.place told)) absent) hdu).data_unit ≡ length hdu.data_unit
-long_one told hdu None lies = refl
-long_one told hdu (Some it) lies = there_long told hdu.data_unit it lies
+-- they are as long where they lie there: those that are known are the same
+long_there : (told bytes : List ℕ) (it : Absence) (known : Bool) → Lies told bytes it → length (if known then bytes else take (length bytes) (drop it.place told)) ≡ length bytes
+long_there told bytes it true lies = refl
+long_there told bytes it false lies = there_long told bytes it lies
+
+pub unit_long : (told bytes : List ℕ) (absent : Option Absence) → IfSome absent (Lies told bytes) → length (unit_at told bytes absent) ≡ length bytes
+unit_long told bytes None lies = refl
+unit_long told bytes (Some it) lies = long_there told bytes it it.known lies
 
 pub long_at : (told : List ℕ) (hdus : List HduState) → AllLie told hdus → AreAsLong (fills_of told hdus) (hdus_of hdus)
 long_at told [] lie = tt
 long_at told (hdu ∷ hdus) lie =
-    (long_one told (parts_of hdu) hdu.absent (All-head (IsHad (in_file told)) hdu hdus lie).lies, long_at told hdus (All-tail (IsHad (in_file told)) hdu hdus lie))
+    (unit_long told hdu.plane.bytes hdu.absent (All-head (IsHad (in_file told)) hdu hdus lie).lies, long_at told hdus (All-tail (IsHad (in_file told)) hdu hdus lie))
 
 -- ---- the tests and the file after an edit of one HDU
 

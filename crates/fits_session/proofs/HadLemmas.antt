@@ -2,12 +2,12 @@
 use Rattle.std.proofs.Common.{◌≡◌, ◌<◌, ◌∙◌, ap, refl, sym, subst, ℕ, List, [], ◌∷◌, length, map, get_or, set, Option}
 use Rattle.fits_stream.specs.Stored.{ReadLogState}
 use Rattle.std.specs.Prelude.{All, Bool, true}
-use Rattle.fits_session.specs.Away.{in_file, AllLie, IsTold, LieStill}
+use Rattle.fits_session.specs.Away.{IsTold}
 use Rattle.fits_unit.specs.Again.{Follows}
 use Rattle.std.proofs.lemmas.List.Elements.{All-head, All-set, All-tail}
 use Rattle.fits_passing.specs.Hdu.{HduParts}
 use Rattle.fits_hdu.specs.State.{HduState, ReadsUpTo, hdu_at, parts_of, IsSeen}
-use Rattle.fits_unit.specs.DataUnit.{unit_at, Absence, IsKnown, LiesIn}
+use Rattle.fits_unit.specs.DataUnit.{unit_at, Absence, HasRectangle, IsKnown}
 use Rattle.fits_passing.specs.declared.called.ExtensionName.{ExtensionName}
 use Rattle.fits_session.specs.Session.{file_of, hdus_of, session_at, state_of, unentered, without_entries, HasPixels, HasStats, IsHeld, IsKept, IsReadyFor, IsSoOf}
 use Rattle.fits_making.specs.Making.{Holding, IsHad, IsReadyTo, StaysHad}
@@ -54,18 +54,25 @@ had_moved holding hdus others same p =
 pub so_held : (h : ℕ) (hdus : List HduState) → All IsHeld hdus → IsSoOf IsHeld h hdus
 so_held h hdus held i one at there = subst IsHeld there (held i one at.within)
 
--- so are its pixels
-pub so_pixels : (h : ℕ) (hdus : List HduState) → All IsHeld hdus → IsSoOf HasPixels h hdus
-so_pixels h hdus held i one at there kind found = so_held h hdus held i one at there
+-- what is in memory is known
+pub seen_held : (one : HduState) → IsHeld one → IsSeen one
+seen_held one held = subst IsKnown (sym held) tt
+
+-- its pixels are in memory, those of any rectangle
+pub held_rect : (lo hi : List ℕ) (one : HduState) → IsHeld one → HasPixels lo hi one
+held_rect lo hi one held kind found = record {
+  seen = seen_held one held;
+  pixels = λ is. subst (HasRectangle one.header.shape.axes lo hi one.plane) (sym held) tt;
+}
+
+pub so_pixels : (lo hi : List ℕ) (h : ℕ) (hdus : List HduState) → All IsHeld hdus → IsSoOf (HasPixels lo hi) h hdus
+so_pixels lo hi h hdus held i one at there = held_rect lo hi one (so_held h hdus held i one at there)
 
 -- and its statistics are known
 pub so_counted : (h : ℕ) (hdus : List HduState) → All IsHeld hdus → IsSoOf HasStats h hdus
 so_counted h hdus held i one at there kind found = let here : IsHeld one = so_held h hdus held i one at there in rw here tt
 
--- and they are seen
-pub seen_held : (one : HduState) → IsHeld one → IsSeen one
-seen_held one held = subst IsKnown (sym held) tt
-
+-- and it is seen
 pub so_seen : (h : ℕ) (hdus : List HduState) → All IsHeld hdus → IsSoOf IsSeen h hdus
 so_seen h hdus held i one at there = seen_held one (so_held h hdus held i one at there)
 
@@ -75,7 +82,7 @@ all_seen_held hdus held = λ i d within. seen_held (get_or hdus i d) (held i d w
 -- what an edit of an HDU in memory wants is
 ready_one : (edit : HduEdit) (one : HduState) → IsHeld one → IsReadyTo edit one
 ready_one (Cards edit) one held = tt
-ready_one (Pixels lo hi paint) one held = λ kind found. held
+ready_one (Pixels lo hi paint) one held = held_rect lo hi one held
 ready_one (Reshape kind axes) one held = λ bits found. held
 ready_one Stamp one held = subst IsKnown (sym held) tt
 ready_one Keep one held = subst IsKnown (sym held) tt

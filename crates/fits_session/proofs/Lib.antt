@@ -9,6 +9,7 @@ pub mod HeaderLemmas
 pub mod KeptLemmas
 pub mod LawLemmas
 pub mod ListEditLemmas
+pub mod LoadedLemmas
 pub mod NameLemmas
 pub mod NamingLemmas
 pub mod OffsetLemmas

@@ -1,12 +1,12 @@
 -- An edit of a session comes to the same over each file that its data units may lie in.
-use Rattle.std.proofs.Common.{◌≡◌, ℕ, ◌+◌, ◌-◌, ◌<◌, ◌≤◌, Bool, true, false, List, [], ◌∷◌, ◌++◌, length, map, get_or, take, drop, refl, ap, sym, ◌∙◌, subst, arith, All, Option, None, Some, zero, suc, inl, inr, add-one}
+use Rattle.std.proofs.Common.{◌≡◌, ℕ, ◌+◌, ◌-◌, Bool, true, false, List, [], ◌∷◌, length, map, get_or, take, drop, refl, ap, sym, ◌∙◌, subst, arith, All, Option, None, Some, zero, suc, inl, inr, add-one}
 use Rattle.std.specs.Prelude.{◌⊎◌, ◌&&◌, ◌==◌, ok_or, not, IfSome, Result, Ok, Err, if◌then◌else◌}
 use Rattle.std.specs.Option.{option_map}
 use Rattle.std.specs.List.{insert, remove, slice_get}
 use Rattle.std.proofs.lemmas.List.{length-append, length-drop, length-map, length-take}
 use Rattle.std.proofs.lemmas.List.Elements.{All-head, All-tail}
 use Rattle.std.proofs.lemmas.Option.{get_or_from_slice_get, slice_get-map, slice_get_within}
-use Rattle.fits_card.specs.Header.{Header, header_bytes}
+use Rattle.fits_card.specs.Header.{header_bytes}
 use Rattle.fits_rules.specs.Image.{array_bits}
 use Rattle.fits_rules.specs.Shape.{shape_of}
 use Rattle.fits_rules.specs.declared.array_shape.Shape.{Shape}
@@ -23,9 +23,9 @@ use Rattle.fits_hdu.specs.declared.pixel_fault.PixelFault.TheVariants as pixel
 use Rattle.fits_passing.specs.Stats.{stats_of, Stats}
 use Rattle.fits_passing.specs.Sums.{verdicts_of}
 use Rattle.fits_plane.specs.Plane.{PlaneState}
-use Rattle.fits_hdu.specs.Stamp.{stamped, with_datasum}
+use Rattle.fits_hdu.specs.Stamp.{stamped}
 use Rattle.fits_hdu.specs.State.{HduState, hdu_at, parts_of, HasPixels, HasStats, IsDescribed, IsSeen}
-use Rattle.fits_unit.specs.DataUnit.{unit_at, Absence, IsCounted, IsKnown, Lies, LiesIn}
+use Rattle.fits_unit.specs.DataUnit.{unit_at, Absence, IsCounted, IsKnown, Lies}
 use Rattle.fits_unit.proofs.AgainLemmas.{there_long}
 use Rattle.fits_edit.specs.declared.edit.Edit.{Edit}
 use Rattle.fits_edit.specs.declared.edit.Edit.TheVariants.{Hdu, NewImage, RemoveHdu}
@@ -44,17 +44,17 @@ use Rattle.fits_session.specs.Query.{by_shape, in_hdu, rect_in, stats_in}
 use Rattle.fits_session.specs.Marked.{is_kept, kept_in, marked_after, marked_refusal, Marked}
 use Rattle.fits_session.specs.Refusal.{new_image_refusal, refusal_in, refusal_of, removal_refusal, size_refusal}
 use Rattle.fits_session.specs.Session.{absences_after, absences_of, file_of, hdus_of, kept_of, marked_of, session_at, state_of, IsReadyFor, IsSoOf, SessionState}
-use Rattle.fits_session.proofs.AwayLemmas.{held_parts, kept_at_told, parts_at, seen_parts}
 use Rattle.fits_session.proofs.ChangeLemmas.{changed_at-both}
-use Rattle.fits_session.proofs.FilledLemmas.{alike_filled, alike_made, fill_of, filled, filled_at, fills_of, long_at, long_filled, made_filled, refusal_filled, unlooked, AreAlike, HasNoKind, LooksAtNone}
+use Rattle.fits_session.proofs.FilledLemmas.{alike_filled, alike_made, fill_of, filled, filled_at, fills_of, long_at, long_filled, made_filled, refusal_filled, unit_long, unlooked, AreAlike, HasNoKind, LooksAtNone}
+use Rattle.fits_session.proofs.HadLemmas.{seen_held}
 use Rattle.fits_session.proofs.KeptLemmas.{parts_same_at}
 use Rattle.fits_session.proofs.ListEditLemmas.{new_length}
+use Rattle.fits_session.proofs.LoadedLemmas.{kept_at_told, parts_at, seen_parts, seen_unit}
 use Rattle.fits_session.proofs.StateLemmas.{IsHduAt, described_there, kept_there, length-hdus_of}
 
--- an HDU whose data unit is what a file has at its place, if it isn't in memory
+-- an HDU in a file: where its data unit isn't known it is what the file has at its place
 abbrev pub told_one : List ℕ → Option Absence → HduParts → HduParts
-told_one told None hdu = hdu
-told_one told (Some it) hdu = record hdu { data_unit = take (length hdu.data_unit) (drop it.place told) }
+told_one told absent hdu = record hdu { data_unit = unit_at told hdu.data_unit absent }
 
 -- the same of each
 abbrev pub told_all : List ℕ → List (Option Absence) → List HduParts → List HduParts
@@ -64,18 +64,10 @@ told_all told (absent ∷ absences) (hdu ∷ hdus) = told_one told absent hdu �
 
 -- ---- a session over a file
 
--- so is one of its HDUs
-told_at : (told : List ℕ) (header : Header) (bytes : List ℕ) (absent : Option Absence)
-    → (let u : HduParts = record { header = header; data_unit = unit_at told bytes absent } in u) ≡ told_one told absent (record { header = header; data_unit = bytes })
-told_at told header bytes None = refl
-told_at told header bytes (Some it) = refl
-
--- and all of them
+-- its HDUs are those in the file
 pub told_parts : (told : List ℕ) (hdus : List HduState) → hdus_of (map (hdu_at told) hdus) ≡ told_all told (absences_of hdus) (hdus_of hdus)
 told_parts told [] = refl
-told_parts told (hdu ∷ hdus) =
-    ap (λ (u : HduParts). u ∷ hdus_of (map (hdu_at told) hdus)) (told_at told hdu.header.header hdu.plane.bytes hdu.absent)
-    ∙ ap (λ (us : List HduParts). told_one told hdu.absent (parts_of hdu) ∷ us) (told_parts told hdus)
+told_parts told (hdu ∷ hdus) = ap (λ (us : List HduParts). told_one told hdu.absent (parts_of hdu) ∷ us) (told_parts told hdus)
 
 -- ---- the list after an edit
 
@@ -109,102 +101,82 @@ remove_told told (absent ∷ absences) (hdu ∷ hdus) (suc k) count = ap (λ (us
 
 -- ---- what an edit makes of an HDU
 
--- an edit is a stamp, and leaves data as they are
-abbrev pub IsStamp : HduEdit → Type 0
-IsStamp Stamp = Unit {0}
-IsStamp Keep = Unit {0}
-IsStamp edit = ⊥
+-- an edit looks at data that are known, or at none
+abbrev pub IsFine : Bool → HduEdit → Option Absence → HduParts → Type 0
+IsFine primary edit absent hdu = IsKnown absent ⊎ LooksAtNone primary edit hdu
 
--- an edit looks at data that are in memory, or at none, or is a stamp of such as are known
-abbrev pub IsFine : List ℕ → Bool → HduEdit → Option Absence → HduParts → Type 0
-IsFine told primary edit absent hdu = (absent ≡ None) ⊎ (LooksAtNone primary edit hdu ⊎ (IsStamp edit × (told_one told absent hdu ≡ hdu)))
+-- an HDU whose data unit is known is the same in any file
+pub known_told : (told : List ℕ) (absent : Option Absence) (hdu : HduParts) → IsKnown absent → told_one told absent hdu ≡ hdu
+known_told told absent hdu known = ap (λ (t : List ℕ). let u : HduParts = record { header = hdu.header; data_unit = t } in u) (seen_unit told hdu.data_unit absent known)
 
--- a stamp leaves data
-stamp_keeps : (hdu : HduParts) → (stamped hdu).data_unit ≡ hdu.data_unit
-unfolding stamped with_datasum
-stamp_keeps hdu = refl
+-- an HDU with what a file has from a place on
+abbrev pub there_one : List ℕ → ℕ → HduParts → HduParts
+there_one told place hdu = record hdu { data_unit = take (length hdu.data_unit) (drop place told) }
 
--- an HDU is stamped over a file as it is known
-pub stamped_told : (told : List ℕ) (absent : Option Absence) (hdu : HduParts) → told_one told absent hdu ≡ hdu → told_one told absent (stamped hdu) ≡ stamped (told_one told absent hdu)
-stamped_told told None hdu same = refl
-stamped_told told (Some it) hdu same =
-    let whole : take (length hdu.data_unit) (drop it.place told) ≡ hdu.data_unit = ap (λ (u : HduParts). u.data_unit) same in
-    let unit : take (length (stamped hdu).data_unit) (drop it.place told) ≡ (stamped hdu).data_unit = ap (λ (t : List ℕ). take (length t) (drop it.place told)) (stamp_keeps hdu) ∙ whole ∙ sym (stamp_keeps hdu) in
-    ap (λ (t : List ℕ). let u : HduParts = record { header = (stamped hdu).header; data_unit = t } in u) unit ∙ ap stamped (sym same)
-
--- what was made of one whose data weren't looked at
-made_told : (told : List ℕ) (it : Absence) (hdu : HduParts) (made : Result HduParts Refusal) → AreAlike made (made_filled (Some (take (length hdu.data_unit) (drop it.place told))) made) → length (take (length hdu.data_unit) (drop it.place told)) ≡ length hdu.data_unit
-    → told_one told (Some it) (made_or hdu made) ≡ made_or (told_one told (Some it) hdu) (made_filled (Some (take (length hdu.data_unit) (drop it.place told))) made)
-made_told told it hdu (Ok made) like long =
+-- so is what was made of one whose data weren't looked at
+made_placed : (told : List ℕ) (place : ℕ) (hdu : HduParts) (made : Result HduParts Refusal) → AreAlike made (made_filled (Some (take (length hdu.data_unit) (drop place told))) made) → length (take (length hdu.data_unit) (drop place told)) ≡ length hdu.data_unit
+    → there_one told place (made_or hdu made) ≡ made_or (there_one told place hdu) (made_filled (Some (take (length hdu.data_unit) (drop place told))) made)
+made_placed told place hdu (Ok made) like long =
     let size : length made.data_unit ≡ length hdu.data_unit = sym like.1 ∙ long in
-    ap (λ n. let u : HduParts = record { header = made.header; data_unit = take n (drop it.place told) } in u) size
-made_told told it hdu (Err why) like long = refl
+    ap (λ n. let u : HduParts = record { header = made.header; data_unit = take n (drop place told) } in u) size
+made_placed told place hdu (Err why) like long = refl
 
--- so of a stamp
-stamp_told : (told : List ℕ) (primary : Bool) (edit : HduEdit) (absent : Option Absence) (hdu : HduParts) → IsStamp edit → told_one told absent hdu ≡ hdu → told_one told absent (hdu_edited primary edit hdu) ≡ hdu_edited primary edit (told_one told absent hdu)
-unfolding hdu_made
-stamp_told told primary (Cards edit) absent hdu stamp same = absurd stamp
-stamp_told told primary (Pixels lo hi paint) absent hdu stamp same = absurd stamp
-stamp_told told primary (Reshape kind axes) absent hdu stamp same = absurd stamp
-stamp_told told primary Stamp absent hdu stamp same = stamped_told told absent hdu same
-stamp_told told primary Keep absent hdu stamp same = stamped_told told absent hdu same
-stamp_told told primary Release absent hdu stamp same = absurd stamp
-
--- an edit makes the same of an HDU over a file
-pub edited_told : (told : List ℕ) (primary : Bool) (edit : HduEdit) (absent : Option Absence) (hdu : HduParts) → IsFine told primary edit absent hdu → IfSome absent (Lies told hdu.data_unit)
-    → told_one told absent (hdu_edited primary edit hdu) ≡ hdu_edited primary edit (told_one told absent hdu)
-edited_told told primary edit None hdu fine lies = refl
-edited_told told primary edit (Some it) hdu (inl held) lies = cc
-edited_told told primary edit (Some it) hdu (inr (inl none)) lies =
+-- an edit that looks at none makes the same of it
+edited_placed : (told : List ℕ) (primary : Bool) (edit : HduEdit) (it : Absence) (hdu : HduParts) → LooksAtNone primary edit hdu → Lies told hdu.data_unit it
+    → there_one told it.place (hdu_edited primary edit hdu) ≡ hdu_edited primary edit (there_one told it.place hdu)
+edited_placed told primary edit it hdu none lies =
     let unit : List ℕ = take (length hdu.data_unit) (drop it.place told) in
     let long : length unit ≡ length hdu.data_unit = there_long told hdu.data_unit it lies in
-    made_told told it hdu (hdu_made primary edit hdu) (alike_made primary edit hdu unit none long) long ∙ ap (made_or (told_one told (Some it) hdu)) (sym (unlooked primary edit hdu unit none))
-edited_told told primary edit (Some it) hdu (inr (inr both)) lies = stamp_told told primary edit (Some it) hdu both.0 both.1
+    made_placed told it.place hdu (hdu_made primary edit hdu) (alike_made primary edit hdu unit none long) long ∙ ap (made_or (there_one told it.place hdu)) (sym (unlooked primary edit hdu unit none))
+
+-- whether it is known or not
+edited_by : (told : List ℕ) (primary : Bool) (edit : HduEdit) (it : Absence) (hdu : HduParts) (known : Bool) → LooksAtNone primary edit hdu → Lies told hdu.data_unit it
+    → (let one : HduParts → HduParts = λ u. record u { data_unit = if known then u.data_unit else take (length u.data_unit) (drop it.place told) } in one (hdu_edited primary edit hdu) ≡ hdu_edited primary edit (one hdu))
+edited_by told primary edit it hdu true none lies = refl
+edited_by told primary edit it hdu false none lies = edited_placed told primary edit it hdu none lies
+
+-- an edit makes the same of an HDU over a file
+pub edited_told : (told : List ℕ) (primary : Bool) (edit : HduEdit) (absent : Option Absence) (hdu : HduParts) → IsFine primary edit absent hdu → IfSome absent (Lies told hdu.data_unit)
+    → told_one told absent (hdu_edited primary edit hdu) ≡ hdu_edited primary edit (told_one told absent hdu)
+edited_told told primary edit absent hdu (inl known) lies = known_told told absent (hdu_edited primary edit hdu) known ∙ ap (hdu_edited primary edit) (sym (known_told told absent hdu known))
+edited_told told primary edit None hdu (inr none) lies = refl
+edited_told told primary edit (Some it) hdu (inr none) lies = edited_by told primary edit it hdu it.known none lies
 
 -- and then stamps it, where a stamp follows
-pub finished_told : (told : List ℕ) (primary stamps : Bool) (edit : HduEdit) (absent : Option Absence) (hdu : HduParts) → IsFine told primary edit absent hdu → IfSome absent (Lies told hdu.data_unit) → (stamps ≡ true → told_one told absent hdu ≡ hdu)
+pub finished_told : (told : List ℕ) (primary stamps : Bool) (edit : HduEdit) (absent : Option Absence) (hdu : HduParts) → IsFine primary edit absent hdu → IfSome absent (Lies told hdu.data_unit) → (stamps ≡ true → IsKnown absent)
     → told_one told absent (stamped_if stamps (hdu_edited primary edit hdu)) ≡ stamped_if stamps (hdu_edited primary edit (told_one told absent hdu))
-finished_told told primary false edit absent hdu fine lies same = edited_told told primary edit absent hdu fine lies
-finished_told told primary true edit absent hdu fine lies same =
-    let one : told_one told absent (hdu_edited primary edit hdu) ≡ hdu_edited primary edit (told_one told absent hdu) = edited_told told primary edit absent hdu fine lies in
-    let still : told_one told absent (hdu_edited primary edit hdu) ≡ hdu_edited primary edit hdu = one ∙ ap (hdu_edited primary edit) (same refl) in
-    stamped_told told absent (hdu_edited primary edit hdu) still ∙ ap stamped one
+finished_told told primary false edit absent hdu fine lies seen = edited_told told primary edit absent hdu fine lies
+finished_told told primary true edit absent hdu fine lies seen =
+    let known : IsKnown absent = seen refl in
+    known_told told absent (stamped (hdu_edited primary edit hdu)) known ∙ ap (λ (u : HduParts). stamped (hdu_edited primary edit u)) (sym (known_told told absent hdu known))
 
 -- ---- what an edit is ready for
 
--- one that is known is what stands there
-seen_told : (told : List ℕ) (absent : Option Absence) (header : Header) (bytes : List ℕ) → IsKnown absent → IfSome absent (Lies told bytes) → told_one told absent (record { header = header; data_unit = bytes }) ≡ record { header = header; data_unit = bytes }
-seen_told told None header bytes known lies = refl
-seen_told told (Some it) header bytes known lies = ap (λ (t : List ℕ). let u : HduParts = record { header = header; data_unit = t } in u) (lies.same known)
-
-pub known_told : (told : List ℕ) (one : HduState) → IsSeen one → LiesIn told one.plane one.absent → told_one told one.absent (parts_of one) ≡ parts_of one
-known_told told one seen lies = seen_told told one.absent one.header.header one.plane.bytes seen lies
-
--- its pixels are in memory, or it is no image
-pixels_fine : (kind : Option Kind) (shape : Shape) (cards : List (List ℕ)) (absent : Option Absence) → kind_in shape cards ≡ kind → ((k : Kind) → kind_in shape cards ≡ Some k → absent ≡ None) → (absent ≡ None) ⊎ HasNoKind kind_in (Ok shape) cards
+-- its data are known, or it is no image
+pixels_fine : (kind : Option Kind) (shape : Shape) (cards : List (List ℕ)) (absent : Option Absence) → kind_in shape cards ≡ kind → ((k : Kind) → kind_in shape cards ≡ Some k → IsKnown absent) → IsKnown absent ⊎ HasNoKind kind_in (Ok shape) cards
 pixels_fine None shape cards absent is ready = inr is
 pixels_fine (Some k) shape cards absent is ready = inl (ready k is)
 
 -- or no array
-array_fine : (bits : Option ℕ) (shape : Shape) (cards : List (List ℕ)) (absent : Option Absence) → array_bits shape ≡ bits → ((n : ℕ) → array_bits shape ≡ Some n → absent ≡ None) → (absent ≡ None) ⊎ HasNoKind array_kind (Ok shape) cards
+array_fine : (bits : Option ℕ) (shape : Shape) (cards : List (List ℕ)) (absent : Option Absence) → array_bits shape ≡ bits → ((n : ℕ) → array_bits shape ≡ Some n → IsKnown absent) → IsKnown absent ⊎ HasNoKind array_kind (Ok shape) cards
 unfolding array_kind
 array_fine None shape cards absent is ready = inr (ap (option_map (λ n. kind_of n (has_offset cards (convention n)))) is)
 array_fine (Some n) shape cards absent is ready = inl (ready n is)
 
 -- so an edit that is ready is fine
-pub ready_fine : (told : List ℕ) (primary : Bool) (edit : HduEdit) (one : HduState) → shape_of primary one.header.header.cards ≡ Ok one.header.shape → IsReadyTo edit one → LiesIn told one.plane one.absent → IsFine told primary edit one.absent (parts_of one)
-ready_fine told primary (Cards edit) one described ready lies = inr (inl tt)
-ready_fine told primary (Pixels lo hi paint) one described ready lies = elim (pixels_fine (kind_in one.header.shape one.header.header.cards) one.header.shape one.header.header.cards one.absent refl ready) [
-  | inl held ↦ inl held
-  | inr none ↦ inr (inl (subst (λ (r : Result Shape ℕ). HasNoKind kind_in r one.header.header.cards) (sym described) none))
+pub ready_fine : (primary : Bool) (edit : HduEdit) (one : HduState) → shape_of primary one.header.header.cards ≡ Ok one.header.shape → IsReadyTo edit one → IsFine primary edit one.absent (parts_of one)
+ready_fine primary (Cards edit) one described ready = inr tt
+ready_fine primary (Pixels lo hi paint) one described ready = elim (pixels_fine (kind_in one.header.shape one.header.header.cards) one.header.shape one.header.header.cards one.absent refl (λ k found. (ready k found).seen)) [
+  | inl known ↦ inl known
+  | inr none ↦ inr (subst (λ (r : Result Shape ℕ). HasNoKind kind_in r one.header.header.cards) (sym described) none)
 ]
-ready_fine told primary (Reshape kind axes) one described ready lies = elim (array_fine (array_bits one.header.shape) one.header.shape one.header.header.cards one.absent refl ready) [
-  | inl held ↦ inl held
-  | inr none ↦ inr (inl (subst (λ (r : Result Shape ℕ). HasNoKind array_kind r one.header.header.cards) (sym described) none))
+ready_fine primary (Reshape kind axes) one described ready = elim (array_fine (array_bits one.header.shape) one.header.shape one.header.header.cards one.absent refl (λ n found. seen_held one (ready n found))) [
+  | inl known ↦ inl known
+  | inr none ↦ inr (subst (λ (r : Result Shape ℕ). HasNoKind array_kind r one.header.header.cards) (sym described) none)
 ]
-ready_fine told primary Stamp one described ready lies = inr (inr (tt, known_told told one ready lies))
-ready_fine told primary Keep one described ready lies = inr (inr (tt, known_told told one ready lies))
-ready_fine told primary Release one described ready lies = inr (inl tt)
+ready_fine primary Stamp one described ready = inl ready
+ready_fine primary Keep one described ready = inl ready
+ready_fine primary Release one described ready = inr tt
 
 -- ---- an edit of HDU h
 
@@ -217,22 +189,10 @@ follows_kept Stamp kept follows = cc
 follows_kept Keep kept follows = cc
 follows_kept Release kept follows = cc
 
--- with other data an HDU is what the file has
-fill_told : (told : List ℕ) (header : Header) (bytes : List ℕ) (absent : Option Absence)
-    → filled (option_map (λ (it : Absence). take (length bytes) (drop it.place told)) absent) (record { header = header; data_unit = bytes }) ≡ told_one told absent (record { header = header; data_unit = bytes })
-fill_told told header bytes None = refl
-fill_told told header bytes (Some it) = refl
-
--- it is as long
-told_long : (told : List ℕ) (absent : Option Absence) (hdu : HduParts) → IfSome absent (Lies told hdu.data_unit) → length (told_one told absent hdu).data_unit ≡ length hdu.data_unit
-told_long told None hdu lies = refl
-told_long told (Some it) hdu lies = there_long told hdu.data_unit it lies
-
 -- what is fine looks at none of it, or at what is the same
-fine_filled : (told : List ℕ) (primary : Bool) (edit : HduEdit) (absent : Option Absence) (hdu : HduParts) → IsFine told primary edit absent hdu → LooksAtNone primary edit hdu ⊎ (told_one told absent hdu ≡ hdu)
-fine_filled told primary edit absent hdu (inl held) = inr (ap (λ (a : Option Absence). told_one told a hdu) held)
-fine_filled told primary edit absent hdu (inr (inl none)) = inl none
-fine_filled told primary edit absent hdu (inr (inr both)) = inr both.1
+fine_filled : (told : List ℕ) (primary : Bool) (edit : HduEdit) (absent : Option Absence) (hdu : HduParts) → IsFine primary edit absent hdu → LooksAtNone primary edit hdu ⊎ (told_one told absent hdu ≡ hdu)
+fine_filled told primary edit absent hdu (inl known) = inr (known_told told absent hdu known)
+fine_filled told primary edit absent hdu (inr none) = inl none
 
 module _ (told : List ℕ) (hdus : List HduState) (tail : List ℕ) (edit : HduEdit) (whole : IsFile (file_of (state_of hdus tail))) (described : All IsDescribed hdus) (lie : AllLie told hdus) where
   -- what is so of the HDU at an index
@@ -240,17 +200,14 @@ module _ (told : List ℕ) (hdus : List HduState) (tail : List ℕ) (edit : HduE
   had_there i one at = subst (IsHad (in_file told)) (sym at.is) (lie i one at.index.within)
 
   -- the edit is fine there
-  fine_there : (i : ℕ) (one : HduState) → IsReadyFor (Hdu (suc i) edit) hdus → IsHduAt hdus (suc i) i one → IsFine told (is_primary_hdu (suc i)) edit one.absent (parts_of one)
+  fine_there : (i : ℕ) (one : HduState) → IsReadyFor (Hdu (suc i) edit) hdus → IsHduAt hdus (suc i) i one → IsFine (is_primary_hdu (suc i)) edit one.absent (parts_of one)
   fine_there i one ready at =
       let own : IsDescribed one = subst IsDescribed (sym at.is) (described i one at.index.within) in
-      ready_fine told (is_primary_hdu (suc i)) edit one (described_there hdus tail (suc i) i one whole at own) (ready i one at.index (sym at.is)) (had_there i one at).lies
+      ready_fine (is_primary_hdu (suc i)) edit one (described_there hdus tail (suc i) i one whole at own) (ready i one at.index (sym at.is))
 
   -- and where a stamp follows, its data are known
-  seen_there : (i : ℕ) (one : HduState) → IsHduAt hdus (suc i) i one → stamp_follows edit (is_kept (kept_of hdus) (suc i)) ≡ true → told_one told one.absent (parts_of one) ≡ parts_of one
-  seen_there i one at follows =
-      let had : IsHad (in_file told) one = had_there i one at in
-      let on : one.kept ≡ true = sym (kept_there hdus (suc i) i one at) ∙ follows_kept edit (is_kept (kept_of hdus) (suc i)) follows in
-      known_told told one (had.kept on) had.lies
+  seen_there : (i : ℕ) (one : HduState) → IsHduAt hdus (suc i) i one → stamp_follows edit (is_kept (kept_of hdus) (suc i)) ≡ true → IsSeen one
+  seen_there i one at follows = (had_there i one at).kept (sym (kept_there hdus (suc i) i one at) ∙ follows_kept edit (is_kept (kept_of hdus) (suc i)) follows)
 
   -- an HDU at an index
   at_index : (i : ℕ) (one : HduState) → slice_get hdus i ≡ Some one → IsHduAt hdus (suc i) i one
@@ -298,11 +255,9 @@ module _ (told : List ℕ) (hdus : List HduState) (tail : List ℕ) (edit : HduE
       let at : IsHduAt hdus (suc i) i one = at_index i one there in
       let own : parts_of one ≡ hdu = cc in
       let primary : Bool = is_primary_hdu (suc i) in
-      let same : filled (fill_of told one) (parts_of one) ≡ told_one told one.absent (parts_of one) = fill_told told one.header.header one.plane.bytes one.absent in
       let fill : get_or (fills_of told hdus) i None ≡ fill_of told one = get_or_from_slice_get (fills_of told hdus) i (fill_of told one) None (slice_get-map (fill_of told) hdus i ∙ ap (option_map (fill_of told)) there) in
-      let fine : LooksAtNone primary edit (parts_of one) ⊎ (filled (fill_of told one) (parts_of one) ≡ parts_of one) =
-      elim (fine_filled told primary edit one.absent (parts_of one) (fine_there i one ready at)) [ inl none ↦ inl none | inr is_same ↦ inr (same ∙ is_same) ] in
-      let long : length (filled (fill_of told one) (parts_of one)).data_unit ≡ length one.plane.bytes = ap (λ (u : HduParts). length u.data_unit) same ∙ told_long told one.absent (parts_of one) (had_there i one at).lies in
+      let fine : LooksAtNone primary edit (parts_of one) ⊎ (filled (fill_of told one) (parts_of one) ≡ parts_of one) = fine_filled told primary edit one.absent (parts_of one) (fine_there i one ready at) in
+      let long : length (unit_at told one.plane.bytes one.absent) ≡ length one.plane.bytes = unit_long told one.plane.bytes one.absent (had_there i one at).lies in
       let here : AreAlike (hdu_made primary edit (parts_of one)) (hdu_made primary edit (filled (get_or (fills_of told hdus) i None) (parts_of one))) =
       subst (λ (f : Option (List ℕ)). AreAlike (hdu_made primary edit (parts_of one)) (hdu_made primary edit (filled f (parts_of one)))) (sym fill) (alike_filled primary edit (parts_of one) (fill_of told one) fine long) in
       subst (λ (u : HduParts). AreAlike (hdu_made primary edit u) (hdu_made primary edit (filled (get_or (fills_of told hdus) i None) u))) own here
@@ -438,9 +393,9 @@ counted_seen plane None counted = tt
 counted_seen plane (Some it) counted = counted.known
 
 module _ (told : List ℕ) (hdus : List HduState) (tail : List ℕ) (lie : AllLie told hdus) where
-  -- an HDU of the file lies where it is said
-  lies_there : (i : ℕ) (one : HduState) → IsHduAt hdus (suc i) i one → IsHad (in_file told) one
-  lies_there i one at = subst (IsHad (in_file told)) (sym at.is) (lie i one at.index.within)
+  -- an HDU of the file is had there
+  had_here : (i : ℕ) (one : HduState) → IsHduAt hdus (suc i) i one → IsHad (in_file told) one
+  had_here i one at = subst (IsHad (in_file told)) (sym at.is) (lie i one at.index.within)
 
   -- the HDU at an index
   index_of : (i : ℕ) (one : HduState) → slice_get hdus i ≡ Some one → IsHduAt hdus (suc i) i one
@@ -458,7 +413,7 @@ module _ (told : List ℕ) (hdus : List HduState) (tail : List ℕ) (lie : AllLi
   known_there i None there seen = refl
   known_there i (Some one) there seen =
       let at : IsHduAt hdus (suc i) i one = index_of i one there in
-      ap (λ (u : HduParts). Option.Some u) (seen_parts told one (seen i one at.index (sym at.is)) (lies_there i one at).lies)
+      ap (λ (u : HduParts). Option.Some u) (seen_parts told one (seen i one at.index (sym at.is)))
 
   pub seen_told_hdu : (h : ℕ) → IsSoOf IsSeen h hdus → hdu_of (file_of (session_at told (state_of hdus tail))) h ≡ hdu_of (file_of (state_of hdus tail)) h
   seen_told_hdu zero seen = refl
@@ -468,8 +423,7 @@ module _ (told : List ℕ) (hdus : List HduState) (tail : List ℕ) (lie : AllLi
   kept_by : (i : ℕ) (one : HduState) (mark : Bool) → one.kept ≡ mark → IsHduAt hdus (suc i) i one
       → Path (Result Bool Refusal) (Ok (get_or (kept_of hdus) i false && are_right (verdicts_of (parts_of (hdu_at told one))))) (Ok (get_or (kept_of hdus) i false && are_right (verdicts_of (parts_of one))))
   kept_by i one true on at =
-      let had : IsHad (in_file told) one = lies_there i one at in
-      ap (λ (u : HduParts). Ok (get_or (kept_of hdus) i false && are_right (verdicts_of u))) (seen_parts told one (had.kept on) had.lies)
+      ap (λ (u : HduParts). Ok (get_or (kept_of hdus) i false && are_right (verdicts_of u))) (seen_parts told one ((had_here i one at).kept on))
   kept_by i one false off at =
       let none : get_or (kept_of hdus) i false ≡ false = kept_there hdus (suc i) i one at ∙ off in
       ap (λ (b : Bool). Ok (b && are_right (verdicts_of (parts_of (hdu_at told one))))) none ∙ sym (ap (λ (b : Bool). Ok (b && are_right (verdicts_of (parts_of one)))) none)
@@ -490,7 +444,7 @@ module _ (told : List ℕ) (hdus : List HduState) (tail : List ℕ) (lie : AllLi
 
 module _ (told : List ℕ) (hdus : List HduState) (tail : List ℕ) (lie : AllLie told hdus) (whole : IsFile (file_of (state_of hdus tail))) (described : All IsDescribed hdus) where
   -- what is asked by the shape that cards describe
-  shaped_one : {X : Type 0} (answer : Shape → HduParts → Result X PixelFault) (Is : HduState → Type 0) → ((one : HduState) → Is one → LiesIn told one.plane one.absent → answer one.header.shape (parts_of (hdu_at told one)) ≡ answer one.header.shape (parts_of one))
+  shaped_one : {X : Type 0} (answer : Shape → HduParts → Result X PixelFault) (Is : HduState → Type 0) → ((one : HduState) → Is one → answer one.header.shape (parts_of (hdu_at told one)) ≡ answer one.header.shape (parts_of one))
       → (i : ℕ) (found : Option HduState) → slice_get hdus i ≡ found → IsSoOf Is (suc i) hdus
       → in_hdu (by_shape (is_primary_hdu (suc i)) answer) (option_map (λ (one : HduState). parts_of (hdu_at told one)) found) ≡ in_hdu (by_shape (is_primary_hdu (suc i)) answer) (option_map parts_of found)
   shaped_one answer Is same i None there so = refl
@@ -498,46 +452,41 @@ module _ (told : List ℕ) (hdus : List HduState) (tail : List ℕ) (lie : AllLi
       let at : IsHduAt hdus (suc i) i one = index_of told hdus tail lie i one there in
       let own : IsDescribed one = subst IsDescribed (sym at.is) (described i one at.index.within) in
       let is : shape_of (is_primary_hdu (suc i)) one.header.header.cards ≡ Ok one.header.shape = described_there hdus tail (suc i) i one whole at own in
-      let here = same one (so i one at.index (sym at.is)) (lies_there told hdus tail lie i one at).lies in
+      let here = same one (so i one at.index (sym at.is)) in
       ap (λ (r : Result Shape ℕ). shaped r (λ (shape : Shape). answer shape (parts_of (hdu_at told one)))) is ∙ ap pixels_made here ∙ sym (ap (λ (r : Result Shape ℕ). shaped r (λ (shape : Shape). answer shape (parts_of one))) is)
 
-  asked_told : {X : Type 0} (answer : Shape → HduParts → Result X PixelFault) (Is : HduState → Type 0) → ((one : HduState) → Is one → LiesIn told one.plane one.absent → answer one.header.shape (parts_of (hdu_at told one)) ≡ answer one.header.shape (parts_of one))
+  asked_told : {X : Type 0} (answer : Shape → HduParts → Result X PixelFault) (Is : HduState → Type 0) → ((one : HduState) → Is one → answer one.header.shape (parts_of (hdu_at told one)) ≡ answer one.header.shape (parts_of one))
       → (h : ℕ) → IsSoOf Is h hdus → in_hdu (by_shape (is_primary_hdu h) answer) (hdu_of (file_of (session_at told (state_of hdus tail))) h) ≡ in_hdu (by_shape (is_primary_hdu h) answer) (hdu_of (file_of (state_of hdus tail)) h)
   asked_told answer Is same zero so = refl
   asked_told answer Is same (suc i) so =
       ap (in_hdu (by_shape (is_primary_hdu (suc i)) answer)) (hdu_told told hdus tail lie i) ∙ shaped_one answer Is same i (slice_get hdus i) refl so ∙ ap (in_hdu (by_shape (is_primary_hdu (suc i)) answer)) (sym (slice_get-map parts_of hdus i))
 
   -- statistics that are known, or of no image
-  stats_by : (kind : Option Kind) (one : HduState) → kind_in one.header.shape one.header.header.cards ≡ kind → HasStats one → LiesIn told one.plane one.absent → stats_of one.header.shape (parts_of (hdu_at told one)) ≡ stats_of one.header.shape (parts_of one)
+  stats_by : (kind : Option Kind) (one : HduState) → kind_in one.header.shape one.header.header.cards ≡ kind → HasStats one → stats_of one.header.shape (parts_of (hdu_at told one)) ≡ stats_of one.header.shape (parts_of one)
   unfolding stats_of
-  stats_by None one is has lies = rw is refl
-  stats_by (Some kind) one is has lies = ap (stats_of one.header.shape) (seen_parts told one (counted_seen one.plane one.absent (has kind is)) lies)
+  stats_by None one is has = rw is refl
+  stats_by (Some kind) one is has = ap (stats_of one.header.shape) (seen_parts told one (counted_seen one.plane one.absent (has kind is)))
 
   pub stats_told : (h : ℕ) → IsSoOf HasStats h hdus → stats_in (file_of (session_at told (state_of hdus tail))) h ≡ stats_in (file_of (state_of hdus tail)) h
-  stats_told h has = asked_told (λ (shape : Shape) (hdu : HduParts). ok_or (stats_of shape hdu) pixel.NotImage) HasStats (λ one has lies. ap (λ (s : Option Stats). ok_or s pixel.NotImage) (stats_by (kind_in one.header.shape one.header.header.cards) one refl has lies)) h has
+  stats_told h has = asked_told (λ (shape : Shape) (hdu : HduParts). ok_or (stats_of shape hdu) pixel.NotImage) HasStats (λ one has. ap (λ (s : Option Stats). ok_or s pixel.NotImage) (stats_by (kind_in one.header.shape one.header.header.cards) one refl has)) h has
 
   -- pixels that are in memory, or of no image
-  rect_by_kind : (lo hi : List ℕ) (kind : Option Kind) (one : HduState) → kind_in one.header.shape one.header.header.cards ≡ kind → HasPixels one → rect_of one.header.shape lo hi (parts_of (hdu_at told one)) ≡ rect_of one.header.shape lo hi (parts_of one)
+  rect_by_kind : (lo hi : List ℕ) (kind : Option Kind) (one : HduState) → kind_in one.header.shape one.header.header.cards ≡ kind → HasPixels lo hi one → rect_of one.header.shape lo hi (parts_of (hdu_at told one)) ≡ rect_of one.header.shape lo hi (parts_of one)
   unfolding rect_of
   rect_by_kind lo hi None one is has = rw is refl
-  rect_by_kind lo hi (Some kind) one is has = ap (rect_of one.header.shape lo hi) (held_parts told one (has kind is))
+  rect_by_kind lo hi (Some kind) one is has = ap (rect_of one.header.shape lo hi) (seen_parts told one (has kind is).seen)
 
-  pub rect_told : (h : ℕ) (lo hi : List ℕ) → IsSoOf HasPixels h hdus → rect_in (file_of (session_at told (state_of hdus tail))) h lo hi ≡ rect_in (file_of (state_of hdus tail)) h lo hi
-  rect_told h lo hi has = asked_told (λ (shape : Shape) (hdu : HduParts). rect_of shape lo hi hdu) HasPixels (λ one has lies. rect_by_kind lo hi (kind_in one.header.shape one.header.header.cards) one refl has) h has
+  pub rect_told : (h : ℕ) (lo hi : List ℕ) → IsSoOf (HasPixels lo hi) h hdus → rect_in (file_of (session_at told (state_of hdus tail))) h lo hi ≡ rect_in (file_of (state_of hdus tail)) h lo hi
+  rect_told h lo hi has = asked_told (λ (shape : Shape) (hdu : HduParts). rect_of shape lo hi hdu) (HasPixels lo hi) (λ one has. rect_by_kind lo hi (kind_in one.header.shape one.header.header.cards) one refl has) h has
 
 -- where all are known the file is the same
-pub seen_told_all : (told : List ℕ) (hdus : List HduState) → All IsSeen hdus → AllLie told hdus → hdus_of (map (hdu_at told) hdus) ≡ hdus_of hdus
-seen_told_all told [] seen lie = refl
-seen_told_all told (hdu ∷ hdus) seen lie =
-    ap (λ (u : HduParts). u ∷ hdus_of (map (hdu_at told) hdus)) (seen_parts told hdu (All-head IsSeen hdu hdus seen) (All-head (IsHad (in_file told)) hdu hdus lie).lies)
-    ∙ ap (λ (us : List HduParts). parts_of hdu ∷ us) (seen_told_all told hdus (All-tail IsSeen hdu hdus seen) (All-tail (IsHad (in_file told)) hdu hdus lie))
+pub seen_told_all : (told : List ℕ) (hdus : List HduState) → All IsSeen hdus → hdus_of (map (hdu_at told) hdus) ≡ hdus_of hdus
+seen_told_all told [] seen = refl
+seen_told_all told (hdu ∷ hdus) seen =
+    ap (λ (u : HduParts). u ∷ hdus_of (map (hdu_at told) hdus)) (seen_parts told hdu (All-head IsSeen hdu hdus seen))
+    ∙ ap (λ (us : List HduParts). parts_of hdu ∷ us) (seen_told_all told hdus (All-tail IsSeen hdu hdus seen))
 
--- a data unit is as long over a file
-unit_long : (told bytes : List ℕ) (absent : Option Absence) → IfSome absent (Lies told bytes) → length (unit_at told bytes absent) ≡ length bytes
-unit_long told bytes None lies = refl
-unit_long told bytes (Some it) lies = there_long told bytes it lies
-
--- so HDUs stand where they do
+-- HDUs stand where they do, since their data units are as long
 pub offsets_told : (told : List ℕ) (hdus : List HduState) (start : ℕ) → AllLie told hdus → offsets_from start (hdus_of (map (hdu_at told) hdus)) ≡ offsets_from start (hdus_of hdus)
 offsets_told told [] start lie = refl
 offsets_told told (hdu ∷ hdus) start lie =

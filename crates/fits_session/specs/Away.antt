@@ -65,21 +65,27 @@ EditWantsData file edit = ⊥
 
 -- so much work on its data unit loading HDU h is, or knowing it
 abbrev pub LoadWork : FileParts → ℕ → PixelWork → PixelWork → Type 0
-LoadWork file h old new = (hdu : HduParts) → hdu_of file h ≡ Some hdu → IsLoaded (block_count hdu.data_unit) old new
+LoadWork file h old new = (hdu : HduParts) → hdu_of file h ≡ Some hdu → IsLoaded 1 (block_count hdu.data_unit) old new
 
--- HDU h was loaded, or is known, and nothing else changes
-pub record LoadsAlone (h : ℕ) (old new : SessionState) : Type 0 where
+-- HDU h was loaded, or pieces of it, or is known, with so many scans of each block at most, and nothing else changes
+pub record LoadsAlone (times h : ℕ) (old new : SessionState) : Type 0 where
   pub now : HduState
   pub is : new ≡ record old { hdus = changed_of h (λ one. now) old.hdus }
-  pub loads : (i : ℕ) (one : HduState) → h ≡ i + 1 → slice_get old.hdus i ≡ Some one → Loads one now
+  pub loads : (i : ℕ) (one : HduState) → h ≡ i + 1 → slice_get old.hdus i ≡ Some one → Loads times one now
 
 -- it was, or nothing changes
-abbrev pub LoadsAt : ℕ → SessionState → SessionState → Type 0
-LoadsAt h old new = (new ≡ old) ⊎ LoadsAlone h old new
+abbrev pub LoadsAt : (times h : ℕ) → SessionState → SessionState → Type 0
+LoadsAt times h old new = (new ≡ old) ⊎ LoadsAlone times h old new
+
+-- how often an edit may have each block scanned as data are loaded for it: all of them once as they pass by, and, where pixels are to be
+-- painted, those of the pieces that hold them once more
+abbrev pub load_times : HduEdit → ℕ
+load_times (Pixels lo hi paint) = 2
+load_times edit = 1
 
 -- so it was where an edit of it needs data; else nothing changes
 abbrev pub LoadsFor : Edit → SessionState → SessionState → Type 0
-LoadsFor (Hdu h edit) old new = (new ≡ old) ⊎ ((needs_data edit ≡ true) × LoadsAlone h old new)
+LoadsFor (Hdu h edit) old new = (new ≡ old) ⊎ ((needs_data edit ≡ true) × LoadsAlone (load_times edit) h old new)
 LoadsFor edit old new = new ≡ old
 
 -- each HDU was loaded, or is known, or stays, and nothing else changes
@@ -87,7 +93,7 @@ abbrev pub LoadEach : List HduState → List HduState → Type 0
 LoadEach [] [] = Unit {0}
 LoadEach [] (now ∷ new) = ⊥
 LoadEach (one ∷ old) [] = ⊥
-LoadEach (one ∷ old) (now ∷ new) = Loads one now × LoadEach old new
+LoadEach (one ∷ old) (now ∷ new) = Loads 1 one now × LoadEach old new
 
 -- so it was in a session
 pub record LoadsAll (old new : SessionState) : Type 0 where

@@ -5,7 +5,7 @@ use Rattle.fits_pixels.specs.Layout.{block_count}
 use Rattle.fits_passing.specs.Hdu.{HduParts}
 use Rattle.fits_unit.specs.DataUnit.{Absence}
 use Rattle.fits_hdu.specs.State.{HduState, hdu_at, parts_of, IsDescribed}
-pub use Rattle.fits_hdu.specs.State.{HasPixels, HasStats, IsSeen}
+pub use Rattle.fits_hdu.specs.State.{HasImage, HasPixels, HasStats, IsSeen}
 use Rattle.fits_passing.specs.declared.called.ExtensionName.{ExtensionName}
 use Rattle.fits_passing.specs.Work.{open_reads}
 use Rattle.fits_hdu.specs.Work.{plane_work, IsMade, PixelWork}
@@ -32,11 +32,11 @@ pub record SessionState : Type 0 where
   pub hdus : List HduState
   pub tail : List ℕ
 
--- the session over a file of these bytes, in which those data units lie that aren't in memory
+-- the session over a file of these bytes, in which those data units lie that aren't all in memory
 abbrev pub session_at : List ℕ → SessionState → SessionState
 session_at told session = record session { hdus = map (hdu_at told) session.hdus }
 
--- where the data unit of each lies, if it isn't in memory
+-- where the data unit of each lies, if not all of it is in memory
 abbrev pub absences_of : List HduState → List (Option Absence)
 absences_of hdus = map (λ (one : HduState). one.absent) hdus
 

@@ -1,10 +1,11 @@
-ghost use Rattle.std.specs.Prelude.{◌≡◌, ◌+◌, ℕ, List, None, Bool, true, false, length, IfErr, IsOk, OnErr, OnOk};
+ghost use Rattle.std.specs.Prelude.{◌≡◌, ◌+◌, ℕ, List, None, Bool, true, false, length, IfErr, IsOk, IsSome, OnErr, OnOk};
 ghost use Rattle.fits_unit.specs.Again.{copied_blocks, CopyCounts, CopyFails, CopyWrites, Follows, LoadCounts, Looks, PrintsAs};
 ghost use Rattle.fits_unit.specs.DataUnit.{IsCounted};
+ghost use Rattle.fits_image.specs.Kind.{kind_in};
 ghost use Rattle.fits_session.specs.Away.{IsToldOn};
 ghost use Rattle.fits_stream.specs.Stream.{Prints};
 ghost use Rattle.fits_passing.specs.Hdu.{hdu_bytes};
-ghost use Rattle.fits_hdu.specs.State.{hdu_at, parts_of, IsSeen, ReadsUpTo};
+ghost use Rattle.fits_hdu.specs.State.{hdu_at, parts_of, HasPixels, IsSeen, ReadsUpTo};
 ghost use Rattle.fits_hdu.specs.Work.{HasHduTotal, Loads, WritesHdu};
 ghost use Rattle.fits_making.specs.Making.{IsHad};
 
@@ -30,7 +31,7 @@ pub trait Holder {
             → OnOk result (parts_of (hdu_at told hdu.new) ≡ parts_of (hdu_at told hdu.old)) }
         ensures lies { (told : List ℕ) → IsToldOn whole told log.new hdu.old
             → IsToldOn whole told log.new hdu.new }
-        ensures loads { Loads hdu.old hdu.new }
+        ensures loads { Loads 1 hdu.old hdu.new }
         ensures idle { IsSeen hdu.old → hdu.new ≡ hdu.old }
         ensures at_once { IsSeen hdu.old → IsOk result }
         ensures quiet { OnOk result (log.new.failures ≡ log.old.failures) }
@@ -46,7 +47,7 @@ pub trait Holder {
         ensures held { OnOk result (hdu.new.absent ≡ None) }
         ensures same { (told : List ℕ) → IsToldOn whole told log.new hdu.old
             → OnOk result (parts_of hdu.new ≡ parts_of (hdu_at told hdu.old)) }
-        ensures loads { Loads hdu.old hdu.new }
+        ensures loads { Loads 1 hdu.old hdu.new }
         ensures idle { hdu.old.absent ≡ None → hdu.new ≡ hdu.old }
         ensures at_once { hdu.old.absent ≡ None → IsOk result }
         ensures quiet { OnOk result (log.new.failures ≡ log.old.failures) }
@@ -56,7 +57,39 @@ pub trait Holder {
             → IfErr result (λ why. why ≡ LoadFault.Changed → ⊥) }
         ensures follows { Follows log.old log.new };
 
-    /// Writes an HDU: its data unit is read, where it lies in the file. It takes no memory.
+    /// Has the pixels of a rectangle of an HDU in memory, if it is an image of integers: they are read,
+    /// where they lie in the file.
+    ///
+    /// Where a call fails, what was read before may stay.
+    fn load_rect(
+        &mut self,
+        alloc: Global,
+        hdu: &mut Hdu,
+        lo: &[u64],
+        hi: &[u64],
+        log: &mut ReadLog,
+    ) -> Result<(), LoadFault>
+        requires { IsHad (record { whole = whole; told = None }) hdu.old }
+        ensures held { OnOk result (HasPixels lo.now hi.now hdu.new) }
+        ensures image { OnErr result (IsSome
+            (kind_in hdu.old.header.shape hdu.old.header.header.cards)) }
+        ensures had { IsHad (record { whole = whole; told = None }) hdu.new }
+        ensures same { (told : List ℕ) → IsToldOn whole told log.new hdu.old
+            → parts_of (hdu_at told hdu.new) ≡ parts_of (hdu_at told hdu.old) }
+        ensures lies { (told : List ℕ) → IsToldOn whole told log.new hdu.old
+            → IsToldOn whole told log.new hdu.new }
+        ensures known { IsSeen hdu.old → IsSeen hdu.new }
+        ensures loads { Loads 2 hdu.old hdu.new }
+        ensures idle { HasPixels lo.now hi.now hdu.old → hdu.new ≡ hdu.old }
+        ensures at_once { HasPixels lo.now hi.now hdu.old → IsOk result }
+        ensures quiet { OnOk result (log.new.failures ≡ log.old.failures) }
+        ensures counted { IfErr result (LoadCounts log.old.failures log.new.failures) }
+        ensures unchanged { (told : List ℕ) → IsToldOn whole told log.new hdu.old
+            → IfErr result (λ why. why ≡ LoadFault.Changed → ⊥) }
+        ensures follows { Follows log.old log.new };
+
+    /// Writes an HDU: what isn't in memory of its data unit is read, where it lies in the file. It takes
+    /// no memory.
     fn emit<W: Sink>(
         &mut self,
         hdu: &mut Hdu,
@@ -100,6 +133,17 @@ impl Holder for InMemory {
         &mut self,
         _alloc: Global,
         _hdu: &mut Hdu,
+        _log: &mut ReadLog,
+    ) -> Result<(), LoadFault> {
+        Ok(())
+    }
+
+    fn load_rect(
+        &mut self,
+        _alloc: Global,
+        _hdu: &mut Hdu,
+        _lo: &[u64],
+        _hi: &[u64],
         _log: &mut ReadLog,
     ) -> Result<(), LoadFault> {
         Ok(())
@@ -162,6 +206,17 @@ impl<'f, F: Stored> Holder for InFile<'f, F> {
 
     fn load(&mut self, alloc: Global, hdu: &mut Hdu, log: &mut ReadLog) -> Result<(), LoadFault> {
         hdu.load(alloc, self.file, log, self.room.as_mut_slice())
+    }
+
+    fn load_rect(
+        &mut self,
+        alloc: Global,
+        hdu: &mut Hdu,
+        lo: &[u64],
+        hi: &[u64],
+        log: &mut ReadLog,
+    ) -> Result<(), LoadFault> {
+        hdu.load_rect(alloc, self.file, log, self.room.as_mut_slice(), lo, hi)
     }
 
     fn emit<W: Sink>(

@@ -13,7 +13,7 @@ use std::alloc::{AllocError, Global};
 pub(crate) fn placed(alloc: Global, passed: Vec<PassedHdu>) -> Result<Vec<Hdu>, AllocError>
     requires met { AreMet passed.items }
     requires few { hdus_end 0 passed.items ≤ 2 ^ 34 }
-    ensures there { IfOk result (λ hdus. (told : List ℕ)
+    ensures there { IfOk result (λ hdus. (told : List ℕ) → AllLieThere told 0 passed.items
         → hdus_of (map (hdu_at told) hdus.items) ≡ all_there told 0 passed.items) }
     ensures lie { IfOk result (λ hdus. (told : List ℕ)
         → AllLieThere told 0 passed.items → AllLie told hdus.items) }

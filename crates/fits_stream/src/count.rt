@@ -29,6 +29,11 @@ impl Count {
         ensures { self.new.total ≡ self.old.total + 1 }
     {}
 
+    /// As often more as was counted elsewhere.
+    pub fn join(&mut self, other: Count)
+        ensures { self.new.total ≡ self.old.total + other.total }
+    {}
+
     /// So many times more.
     pub fn add(&mut self, times: usize)
         ensures { self.new.total ≡ self.old.total + times }

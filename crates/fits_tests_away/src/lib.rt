@@ -10,6 +10,10 @@ mod edited;
 #[cfg(test)]
 mod hdus;
 #[cfg(test)]
+mod parts;
+#[cfg(test)]
+mod pieces;
+#[cfg(test)]
 mod rows;
 #[cfg(test)]
 mod units_away;

@@ -1,5 +1,6 @@
 -- Bytes of a stored file that are read again.
-use Rattle.std.proofs.Common.{◌≡◌, ◌+◌, ◌<◌, ◌≤◌, ◌%◌, ◌/◌, ℕ, List, [], ◌++◌, length, min, take, drop, ap, sym, ◌∙◌, arith, subst, append_assoc, true, Option, Some}
+use Rattle.std.proofs.Common.{refl, ◌≡◌, ◌+◌, ◌<◌, ◌≤◌, ◌%◌, ◌/◌, ℕ, List, [], ◌++◌, length, min, take, drop, ap, sym, ◌∙◌, arith, subst, append_assoc, true, Option, Some}
+use Rattle.std.specs.Prelude.{Bool, false, if◌then◌else◌}
 use Rattle.std.proofs.lemmas.List.{append-nil, length-append, length-drop, length-take, take-append-drop, take-take, take_all}
 use Rattle.std.proofs.Math.Seq.{take-append_seam}
 use Rattle.std.specs.List.{slice_get}
@@ -13,7 +14,8 @@ use Rattle.fits_stream.proofs.StreamLemmas.{PrintsFront-longer, Reads-more}
 use Rattle.fits_sum.specs.Words.{word_total}
 use Rattle.fits_sum.proofs.WordLemmas.{word_total-append}
 use Rattle.fits_unit.specs.Again.{CopyFails, CopyNextStops, CopyStops, Follows, LoadStops, NextShort, NextStops, ReadsFewer}
-use Rattle.fits_unit.specs.DataUnit.{Absence, Lies}
+use Rattle.fits_unit.specs.DataUnit.{away_at, away_plane, unit_at, Absence, Lies}
+use Rattle.fits_unit.specs.declared.away_unit.AwayUnit.{AwayUnit}
 use Rattle.fits_unit.specs.declared.again.CopyFault.{CopyFault}
 use Rattle.fits_unit.specs.declared.again.CopyFault.TheVariants.{Failed, Changed, Write}
 use Rattle.fits_unit.specs.declared.again.LoadFault.{LoadFault}
@@ -112,14 +114,30 @@ there_long xs own it lies = omega (arith, lies.there, length-drop it.place xs, l
 there_whole : (xs own : List ℕ) (it : Absence) → Lies xs own it → take (length (take (length own) (drop it.place xs))) (drop it.place xs) ≡ take (length own) (drop it.place xs)
 there_whole xs own it lies = ap (λ n. take n (drop it.place xs)) (there_long xs own it lies)
 
+-- which is the unit in that file, where none of it was painted
+unit_there : (xs own : List ℕ) (it : Absence) (known : Bool) → it.known ≡ known → Lies xs own it → it.passed ≡ own → take (length own) (drop it.place xs) ≡ (if known then own else take (length own) (drop it.place xs))
+unit_there xs own it true is lies same = lies.same is ∙ same
+unit_there xs own it false is lies same = refl
+
+pub told_unit : (xs own : List ℕ) (it : Absence) → Lies xs own it → it.passed ≡ own → take (length own) (drop it.place xs) ≡ unit_at xs own (Some it)
+told_unit xs own it lies same = unit_there xs own it it.known refl lies same
+
+-- so of one that is away
+pub told_away : (xs : List ℕ) (place : ℕ) (it : AwayUnit) (bytes : List ℕ) → Lies xs (away_plane it).bytes (away_at place it) → bytes ≡ take (length (away_plane it).bytes) (drop place xs) → bytes ≡ unit_at xs (away_plane it).bytes (Some (away_at place it))
+told_away xs place it bytes lies read = read ∙ told_unit xs (away_plane it).bytes (away_at place it) lies refl
+
 -- what was read from its place on is what lies there
 pub read_there : (xs own bytes : List ℕ) (it : Absence) (old new : ReadLogState) → ReadsOn it.place old new bytes → IsOf xs new → Lies xs own it → length bytes ≡ length own → bytes ≡ take (length own) (drop it.place xs)
 read_there xs own bytes it old new p is lies size =
     unit_read xs (take (length own) (drop it.place xs)) bytes it.place old new p is (there_whole xs own it lies) (size ∙ sym (there_long xs own it lies))
 
--- and where it is known, that is it
-pub read_known : (xs own bytes : List ℕ) (it : Absence) (old new : ReadLogState) → ReadsOn it.place old new bytes → IsOf xs new → Lies xs own it → length bytes ≡ length own → it.known ≡ true → bytes ≡ own
+-- and where it is known, that is what passed by
+pub read_known : (xs own bytes : List ℕ) (it : Absence) (old new : ReadLogState) → ReadsOn it.place old new bytes → IsOf xs new → Lies xs own it → length bytes ≡ length own → it.known ≡ true → bytes ≡ it.passed
 read_known xs own bytes it old new p is lies size known = read_there xs own bytes it old new p is lies size ∙ lies.same known
+
+-- so it is the unit in that file, where none of it was painted
+pub read_unit : (xs own bytes : List ℕ) (it : Absence) (old new : ReadLogState) → ReadsOn it.place old new bytes → IsOf xs new → Lies xs own it → length bytes ≡ length own → it.passed ≡ own → bytes ≡ unit_at xs own (Some it)
+read_unit xs own bytes it old new p is lies size same = read_there xs own bytes it old new p is lies size ∙ told_unit xs own it lies same
 
 -- what lies there isn't copied whole for these reasons alone
 pub copy_fails_there : (xs own : List ℕ) (it : Absence) (log log' : ReadLogState) (old new : SinkState) (why : CopyFault) → IsOf xs log' → Lies xs own it → CopyStops it.place (length own) log log' old new why → CopyFails (take (length own) (drop it.place xs)) old new why

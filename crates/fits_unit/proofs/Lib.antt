@@ -1,2 +1,6 @@
 pub mod AgainLemmas
+pub mod PartCopyLemmas
+pub mod PartLemmas
+pub mod PartLoadLemmas
+pub mod PartReadLemmas
 pub mod PassedLemmas

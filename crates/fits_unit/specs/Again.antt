@@ -1,13 +1,13 @@
 -- Bytes of a stored file that are read again (own).
-use Rattle.std.specs.Prelude.{◌≡◌, ◌<◌, ◌≤◌, ℕ, ◌+◌, true, List, ◌++◌, length, take, Option, None, Some, MatchOption}
+use Rattle.std.specs.Prelude.{◌≡◌, ◌<◌, ◌≤◌, ℕ, ◌+◌, Bool, false, true, List, [], ◌∷◌, ◌++◌, drop, length, take, Option, None, Some, MatchOption}
 use Rattle.fits_stream.specs.Agree.{EndsAt, IsOf, ReadsOn, ReadsShort, ReadsSome}
 use Rattle.fits_stream.specs.Log.{Grows, IsEnded, Logs}
 use Rattle.fits_stream.specs.Stored.{ReadLogState}
 use Rattle.fits_stream.specs.Stream.{SinkState, SourceState, Prints, PrintsFront, Reads}
 use Rattle.fits_sum.specs.Words.{word_total}
-use Rattle.fits_pixels.specs.Layout.{block_count}
+use Rattle.fits_pieces.specs.Pieces.{away_blocks}
 use Rattle.fits_plane.specs.Plane.{PlaneState}
-use Rattle.fits_unit.specs.DataUnit.{Absence, IsKnown}
+use Rattle.fits_unit.specs.Absence.{Absence, IsKnown}
 use Rattle.fits_unit.specs.declared.again.CopyFault.{CopyFault}
 use Rattle.fits_unit.specs.declared.again.CopyFault.TheVariants.{Failed, Changed, Write}
 use Rattle.fits_unit.specs.declared.again.LoadFault.{LoadFault}
@@ -128,20 +128,29 @@ pub record PrintsAs (Is : List ℕ → Type 0) (len : ℕ) (old new : SinkState)
 abbrev pub HasTotal : List ℕ → Option Absence → List ℕ → Type 0
 HasTotal unit absent bytes = IsKnown absent → word_total bytes ≡ word_total unit
 
--- these bytes were read from a place on, as many as a data unit has that lies there, with the same total, where it is known
+-- bytes were had of a data unit that lies at a place, some pieces of which are in memory: those are what they are, and the others were
+-- read, with what follows them
+abbrev pub ReadsRest : ℕ → List Bool → List ℕ → ReadLogState → ReadLogState → List ℕ → Type 0
+ReadsRest place [] unit log log' bytes = ReadsOn place log log' bytes
+ReadsRest place (true ∷ held) unit log log' bytes =
+    (take 46080 bytes ≡ take 46080 unit) × ReadsRest (place + 46080) held (drop 46080 unit) log log' (drop 46080 bytes)
+ReadsRest place (false ∷ held) unit log log' bytes =
+    (mid : ReadLogState) × ReadsOn place log mid (take 46080 bytes) × ReadsRest (place + 46080) held (drop 46080 unit) mid log' (drop 46080 bytes)
+
+-- so these were, as many as the unit has, with the same total, where it is known
 pub record ReadsBack (unit : List ℕ) (it : Absence) (log log' : ReadLogState) (bytes : List ℕ) : Type 0 where
-  pub read : ReadsOn it.place log log' bytes
+  pub read : ReadsRest it.place it.held unit log log' bytes
   pub size : length bytes ≡ length unit
   pub total : it.known ≡ true → word_total bytes ≡ word_total unit
 
--- these are the bytes of a data unit: those in memory, or such as the reads from its place on gave
+-- these are the bytes of a data unit: those in memory, and such as the reads from its place on gave
 abbrev pub IsUnitRead : List ℕ → Option Absence → ReadLogState → ReadLogState → List ℕ → Type 0
 IsUnitRead unit absent log log' bytes = MatchOption absent (bytes ≡ unit) (λ it. ReadsBack unit it log log' bytes)
 
--- how many blocks are looked at as a data unit is written: those of one that isn't in memory
+-- how many blocks are looked at as a data unit is written: those that aren't in memory
 abbrev pub copied_blocks : List ℕ → Option Absence → ℕ
 copied_blocks bytes None = 0
-copied_blocks bytes (Some it) = block_count bytes
+copied_blocks bytes (Some it) = away_blocks it.held (length bytes)
 
 -- so many blocks were looked at, at most
 pub record Looks (count : ℕ) (log log' : ReadLogState) : Type 0 where

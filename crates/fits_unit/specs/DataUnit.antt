@@ -1,32 +1,17 @@
--- A data unit: in memory, known alone, or unread (own).
-use Rattle.std.specs.Prelude.{◌≡◌, ℕ, ◌+◌, ◌≤◌, ℤ, Bool, true, false, if◌then◌else◌, List, length, take, drop, Option, None, Some, IfSome}
+-- A data unit: in memory, in part or whole, known alone, or unread (own).
+use Rattle.std.specs.Prelude.{ℕ, ℤ, Bool, true, false, if◌then◌else◌, List, [], Option, None, Some}
 use Rattle.fits_pixels.specs.Layout.{block_count}
 use Rattle.fits_plane.specs.Plane.{PlaneState}
+pub use Rattle.fits_unit.specs.Absence.{blanked, part_at, part_of, unit_at, Absence, Counts, HasRectangle, Holds, IsAway, IsCounted, IsKnown, IsPart, Lies, LiesIn, PartState, UnitState}
 use Rattle.fits_unit.specs.declared.absent.Absent.{Absent}
+use Rattle.fits_unit.specs.declared.absent.Absent.TheVariants.{Away, InPart}
 use Rattle.fits_unit.specs.declared.away_unit.AwayUnit.{AwayUnit}
 use Rattle.fits_unit.specs.declared.away_unit.AwayUnit.TheVariants.{Passed, Unread}
-
--- where a data unit lies that isn't in memory: its place in its file; whether its bytes passed by, so that it is known; and the stored
--- number of undefined pixels that its statistics leave out then
-pub record Absence : Type 0 where
-  pub place : ℕ
-  pub known : Bool
-  pub blank : Option ℤ
-
--- a data unit: its bytes, how they are read, and the work on them so far; and where it lies, if it isn't in memory. Of one that isn't
--- known there are zeros in place of its bytes
-pub record UnitState : Type 0 where
-  pub plane : PlaneState
-  pub absent : Option Absence
 
 -- what is known of one that isn't in memory: where its bytes passed by each of its blocks was scanned
 abbrev pub away_plane : AwayUnit → PlaneState
 away_plane (Passed it) = record { bytes = it.bytes; layout = it.layout; scans = it.scans; reads = 0; joins = 0 }
 away_plane (Unread it) = record { bytes = it.bytes; layout = it.layout; scans = 0; reads = 0; joins = 0 }
-
--- with another stored number of undefined pixels
-abbrev pub blanked : Option ℤ → PlaneState → PlaneState
-blanked blank plane = record plane { layout = record plane.layout { blank = blank } }
 
 -- did its bytes pass by?
 abbrev pub is_passed : AwayUnit → Bool
@@ -38,41 +23,27 @@ abbrev pub passed_blank : AwayUnit → Option ℤ
 passed_blank (Passed it) = it.blank
 passed_blank (Unread it) = None
 
--- what is in memory of it, or what is known
+-- where a unit lies that passed by, or is unread: no piece of it is in memory
+abbrev pub away_at : ℕ → AwayUnit → Absence
+away_at place it = record { place = place; known = is_passed it; blank = passed_blank it; passed = (away_plane it).bytes; held = [] }
+
+-- what is in memory of a unit, or what is known
+abbrev pub absent_plane : Absent → PlaneState
+absent_plane (Away it) = away_plane it.unit
+absent_plane (InPart it) = it.plane
+
 abbrev pub plane_of : PlaneState → Option Absent → PlaneState
 plane_of plane None = plane
-plane_of plane (Some it) = away_plane it.unit
+plane_of plane (Some it) = absent_plane it
 
 -- where it lies
+abbrev pub lies_at : Absent → Absence
+lies_at (Away it) = away_at it.place it.unit
+lies_at (InPart it) = part_at it
+
 abbrev pub absence_of : Option Absent → Option Absence
 absence_of None = None
-absence_of (Some it) = Some (record { place = it.place; known = is_passed it.unit; blank = passed_blank it.unit })
-
--- its bytes are known: it is in memory, or they passed by
-abbrev pub IsKnown : Option Absence → Type 0
-IsKnown absent = IfSome absent (λ it. it.known ≡ true)
-
--- its statistics are known: it is in memory, or they leave out what they are to leave out
-pub record Counts (plane : PlaneState) (it : Absence) : Type 0 where
-  pub known : it.known ≡ true
-  pub blank : plane.layout.blank ≡ it.blank
-
-abbrev pub IsCounted : PlaneState → Option Absence → Type 0
-IsCounted plane absent = IfSome absent (Counts plane)
-
--- the bytes of a data unit in a file of these bytes: those in memory, or those that the file has at its place
-abbrev pub unit_at : List ℕ → List ℕ → Option Absence → List ℕ
-unit_at told unit None = unit
-unit_at told unit (Some it) = take (length unit) (drop it.place told)
-
--- a file of these bytes has one at its place that is as long, and, where it is known, the same
-pub record Lies (told unit : List ℕ) (it : Absence) : Type 0 where
-  pub there : it.place + length unit ≤ length told
-  pub same : it.known ≡ true → take (length unit) (drop it.place told) ≡ unit
-
--- where it isn't in memory it lies in a file of these bytes
-abbrev pub LiesIn : List ℕ → PlaneState → Option Absence → Type 0
-LiesIn told plane absent = IfSome absent (Lies told plane.bytes)
+absence_of (Some it) = Some (lies_at it)
 
 -- how many of its blocks were scanned as its bytes passed by, if they did
 abbrev pub passed_blocks : AwayUnit → ℕ

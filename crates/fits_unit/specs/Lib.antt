@@ -1,4 +1,6 @@
+pub mod Absence
 pub mod Again
 pub mod DataUnit
+pub mod Part
 pub mod Passing
 pub mod Unread

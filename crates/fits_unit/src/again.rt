@@ -1,6 +1,8 @@
 //! Bytes of a stored file, read by their place.
-ghost use Rattle.std.specs.Prelude.{◌≡◌, ◌<◌, ◌≤◌, ◌+◌, ◌*◌, ◌/◌, ◌%◌, ◌^◌, length, IfOk, IfErr, OnOk};
+ghost use Rattle.std.specs.Prelude.{◌≡◌, ◌<◌, ◌≤◌, ◌+◌, ◌*◌, ◌/◌, ◌%◌, ◌^◌, ℕ, false, length, replicate, IfOk, IfErr, OnOk};
 ghost use Rattle.fits_sum.specs.Words.{word_total};
+ghost use Rattle.fits_pixels.specs.Layout.{block_count};
+ghost use Rattle.fits_pieces.specs.Piece.{pieces_in};
 ghost use Rattle.fits_stream.specs.Agree.{ReadsOn};
 ghost use Rattle.fits_stream.specs.Stream.{Reads};
 ghost use Rattle.fits_unit.specs.Unread.{LaysOut};
@@ -9,6 +11,7 @@ ghost use Rattle.fits_unit.specs.Again.{Copies, CopiesNext, CopyCounts, CopyNext
 use crate::passed_unit::PassedUnit;
 use crate::passing_unit::PassingUnit;
 use fits_card::BLOCK_LEN;
+use fits_pieces::{PIECE_LEN, PassingPieces, PiecedUnit};
 use fits_pixels::Layout;
 use fits_stream::{Count, ReadLog, Sink, Source, Stored, StoredSource, fill, write_all};
 use fits_sum::words_total;
@@ -158,6 +161,88 @@ fn pass_next<R: Source>(
         unit.add(piece);
     }
     Ok(unit.end())
+}
+
+/// So many bytes of a file from a place on, which are a data unit that is read so, pass by piece after
+/// piece through a room of one piece at least.
+pub(crate) fn pass_pieces<F: Stored>(
+    alloc: Global,
+    file: &F,
+    log: &mut ReadLog,
+    place: u64,
+    len: usize,
+    layout: Layout,
+    room: &mut [u8],
+) -> Result<PiecedUnit, LoadFault>
+    requires wide { 46080 ≤ length room.old }
+    requires fits { LaysOut layout len }
+    ensures are { IfOk result (λ unit. ReadsOn place log.old log.new unit.plane.bytes) }
+    ensures passed { IfOk result (λ unit. unit.passed ≡ unit.plane.bytes) }
+    ensures len { IfOk result (λ unit. length unit.plane.bytes ≡ len) }
+    ensures layout { IfOk result (λ unit. unit.plane.layout ≡ layout) }
+    ensures held { IfOk result (λ unit. unit.held ≡ replicate (pieces_in len) false) }
+    ensures scans { IfOk result (λ unit. unit.plane.scans ≡ block_count unit.plane.bytes) }
+    ensures reads { IfOk result (λ unit. unit.plane.reads ≡ 0) }
+    ensures joins { IfOk result (λ unit. (d : ℕ) → block_count unit.plane.bytes ≤ 2 ^ d
+        → unit.plane.joins ≤ 2 ^ d) }
+    ensures size { length room.new ≡ length room.old }
+    ensures quiet { OnOk result (log.new.failures ≡ log.old.failures) }
+    ensures err { IfErr result (LoadStops place len log.old log.new) }
+    ensures counted { IfErr result (LoadCounts log.old.failures log.new.failures) }
+    ensures looked { log.new.looked ≡ log.old.looked }
+{
+    let mut source = StoredSource::new(file, place, log.take_reads());
+    let passed = pass_next_pieces(alloc, &mut source, len, layout, room);
+    log.put_reads(source.into_log());
+    passed
+}
+
+// So do the next bytes of a source.
+fn pass_next_pieces<R: Source>(
+    alloc: Global,
+    source: &mut R,
+    len: usize,
+    layout: Layout,
+    room: &mut [u8],
+) -> Result<PiecedUnit, LoadFault>
+    requires wide { 46080 ≤ length room.old }
+    requires fits { LaysOut layout len }
+    ensures are { IfOk result (λ unit. Reads unit.plane.bytes
+        (R.state source.old) (R.state source.new)) }
+    ensures passed { IfOk result (λ unit. unit.passed ≡ unit.plane.bytes) }
+    ensures len { IfOk result (λ unit. length unit.plane.bytes ≡ len) }
+    ensures layout { IfOk result (λ unit. unit.plane.layout ≡ layout) }
+    ensures held { IfOk result (λ unit. unit.held ≡ replicate (pieces_in len) false) }
+    ensures scans { IfOk result (λ unit. unit.plane.scans ≡ block_count unit.plane.bytes) }
+    ensures reads { IfOk result (λ unit. unit.plane.reads ≡ 0) }
+    ensures joins { IfOk result (λ unit. (d : ℕ) → block_count unit.plane.bytes ≤ 2 ^ d
+        → unit.plane.joins ≤ 2 ^ d) }
+    ensures size { length room.new ≡ length room.old }
+    ensures quiet { OnOk result ((R.state source.new).failures ≡ (R.state source.old).failures) }
+    ensures err { IfErr result (LoadNextStops len (R.state source.old) (R.state source.new)) }
+    ensures counted { IfErr result
+        (LoadCounts (R.state source.old).failures (R.state source.new).failures) }
+{
+    let Ok(mut unit) = PassingPieces::new(alloc, layout, len) else {
+        return Err(LoadFault::Memory);
+    };
+    let mut count = 0;
+    while count < len {
+        let most = PIECE_LEN.min(len - count);
+        let (piece, _) = room.split_at_mut(most);
+        let Ok(n) = fill(source, piece, most) else {
+            return Err(LoadFault::Failed);
+        };
+        if n < most {
+            return Err(LoadFault::Changed);
+        }
+        unit.add(piece);
+        count += most;
+    }
+    match unit.end(alloc) {
+        Ok(unit) => Ok(unit),
+        Err(_) => Err(LoadFault::Memory),
+    }
 }
 
 /// Copies so many bytes of a file from a place on, in whole blocks, through a room of one block at

@@ -41,6 +41,13 @@ impl AwayUnit {
         }
     }
 
+    /// Whether its bytes passed by.
+    pub(crate) fn is_known(&self) -> bool
+        ensures { result ≡ is_passed self.now }
+    {
+        matches!(self, AwayUnit::Passed(_))
+    }
+
     /// Makes this the stored number of undefined pixels. Its bytes aren't looked at.
     pub(crate) fn set_blank(&mut self, blank: Option<i64>)
         ensures plane { away_plane self.new ≡ blanked blank (away_plane self.old) }

@@ -1,10 +1,16 @@
-//! Data units in memory, or away in their file: known by what was found as they passed by, or unread.
+//! Data units in memory, in part or whole, or away in their file: known by what was found as they passed
+//! by, or unread.
 #![tactic(auto)]
 
 mod absent;
 mod again;
+mod away_at;
 mod away_unit;
 mod data_unit;
+mod part_copy;
+mod part_load;
+mod part_read;
+mod part_unit;
 mod passed_unit;
 mod passing_unit;
 mod unread_unit;

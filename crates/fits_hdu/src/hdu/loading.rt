@@ -1,20 +1,22 @@
 //! An HDU whose data unit lies in a file, and is read where it is wanted.
 use super::Hdu;
 use fits_passing::PassedHdu;
+use fits_plane::is_rectangle;
 use fits_stream::{ReadLog, Sink, Stored};
 use fits_unit::{CopyFault, DataUnit, LoadFault};
 use std::alloc::{AllocError, Global};
 
 impl Hdu {
-    ghost use Rattle.std.specs.Prelude.{◌≡◌, ◌≤◌, ◌+◌, ◌%◌, ◌<◌, ◌↔◌, ℕ, List, length, None, IfOk, IfErr, IfSome, IsOk, IsTrue, OnOk, OnErr};
-    ghost use Rattle.fits_stream.specs.Agree.{IsOf, ReadsOn};
+    ghost use Rattle.std.specs.Prelude.{◌≡◌, ◌≤◌, ◌+◌, ◌%◌, ◌<◌, ◌↔◌, ℕ, List, length, None, IfOk, IfErr, IfSome, IsOk, IsSome, IsTrue, OnOk, OnErr};
+    ghost use Rattle.fits_image.specs.Kind.{kind_in};
+    ghost use Rattle.fits_stream.specs.Agree.{IsOf};
     ghost use Rattle.fits_stream.specs.Stream.{Prints};
     ghost use Rattle.fits_pixels.specs.Layout.{block_count};
-    ghost use Rattle.fits_unit.specs.Again.{copied_blocks, CopyCounts, CopyFails, CopyWrites, Follows, LoadCounts, Looks, PrintsAs};
+    ghost use Rattle.fits_unit.specs.Again.{copied_blocks, CopyCounts, CopyFails, CopyWrites, Follows, LoadCounts, Looks, PrintsAs, ReadsRest};
     ghost use Rattle.fits_unit.specs.DataUnit.{away_plane, is_passed, passed_blank, IsCounted, LiesIn};
     ghost use Rattle.fits_passing.specs.Hdu.{hdu_bytes};
     ghost use Rattle.fits_passing.specs.Met.{IsMet};
-    ghost use Rattle.fits_hdu.specs.State.{hdu_at, parts_of, IsSeen, ReadsUpTo};
+    ghost use Rattle.fits_hdu.specs.State.{hdu_at, parts_of, HasPixels, IsSeen, ReadsUpTo};
     ghost use Rattle.fits_hdu.specs.Work.{HasHduTotal, IsOpenedAt, Loads, WritesHdu};
 
     /// The HDU whose data unit passed by or stays unread, and lies at this place of a file.
@@ -36,7 +38,7 @@ impl Hdu {
         }
     }
 
-    /// Whether its data unit is in memory.
+    /// Whether all of its data unit is in memory.
     pub fn is_held(&self) -> bool
         ensures { IsTrue result ↔ self.now.absent ≡ None }
     {
@@ -75,7 +77,7 @@ impl Hdu {
             → LiesIn told self.new.plane self.new.absent }
         ensures place { IfSome self.old.absent (λ it. IfSome self.new.absent (λ at. at.place ≡ it.place)) }
         ensures away { self.new.absent ≡ None → self.old.absent ≡ None }
-        ensures loads { Loads self.old self.new }
+        ensures loads { Loads 1 self.old self.new }
         ensures idle { IsSeen self.old → self.new ≡ self.old }
         ensures at_once { IsSeen self.old → IsOk result }
         ensures quiet { OnOk result (log.new.failures ≡ log.old.failures) }
@@ -90,8 +92,8 @@ impl Hdu {
         self.unit.know(file, log, room)
     }
 
-    /// Reads its data unit into memory, where it isn't there, from the file that it lies in, through a
-    /// room. What is read is compared with what is known of it, by its length and its total.
+    /// Has all of its data unit in memory: what isn't there is read from the file that it lies in,
+    /// through a room, and compared with what is known of it, by its length and its total.
     pub fn load<F: Stored>(
         &mut self,
         alloc: Global,
@@ -101,11 +103,11 @@ impl Hdu {
     ) -> Result<(), LoadFault>
         requires { 0 < length room.old }
         ensures held { OnOk result (self.new.absent ≡ None) }
-        ensures loaded { OnOk result (IfSome self.old.absent
-            (λ it. ReadsOn it.place log.old log.new self.new.plane.bytes)) }
+        ensures loaded { OnOk result (IfSome self.old.absent (λ it. ReadsRest it.place it.held
+            self.old.plane.bytes log.old log.new self.new.plane.bytes)) }
         ensures same { (told : List ℕ) → IsOf told log.new → LiesIn told self.old.plane self.old.absent
             → OnOk result (parts_of self.new ≡ parts_of (hdu_at told self.old)) }
-        ensures loads { Loads self.old self.new }
+        ensures loads { Loads 1 self.old self.new }
         ensures scanned { OnOk result (IfSome self.old.absent (λ _. self.new.plane.scans
             ≡ self.old.plane.scans + block_count self.old.plane.bytes)) }
         ensures idle { self.old.absent ≡ None → self.new ≡ self.old }
@@ -122,9 +124,55 @@ impl Hdu {
         self.unit.load(alloc, file, log, room)
     }
 
-    /// Writes the header and then the data unit: that in memory, or else what the file has at its
-    /// place, through a room of one block at least. What is copied is compared with what is known of it, by
-    /// its length and its total. Each card's read is counted.
+    /// Has the pixels of a rectangle in memory, where it is an image of integers: of a large data unit
+    /// the pieces that hold them are read, once all of it passed by. Corners count from 1; where they
+    /// make no rectangle it comes to be known. What is read is compared with what is known of it.
+    ///
+    /// Where a call fails, what came to be known before, and the pieces that were read, stay.
+    #[tactic(auto, using(crate::proofs::PixelLemmas::pixel_steps))]
+    pub fn load_rect<F: Stored>(
+        &mut self,
+        alloc: Global,
+        file: &F,
+        log: &mut ReadLog,
+        room: &mut [u8],
+        lo: &[u64],
+        hi: &[u64],
+    ) -> Result<(), LoadFault>
+        requires { 46080 ≤ length room.old }
+        ensures held { OnOk result (HasPixels lo.now hi.now self.new) }
+        ensures image { OnErr result (IsSome
+            (kind_in self.old.header.shape self.old.header.header.cards)) }
+        ensures same { (told : List ℕ) → IsOf told log.new → LiesIn told self.old.plane self.old.absent
+            → parts_of (hdu_at told self.new) ≡ parts_of (hdu_at told self.old) }
+        ensures lies { (told : List ℕ) → IsOf told log.new → LiesIn told self.old.plane self.old.absent
+            → LiesIn told self.new.plane self.new.absent }
+        ensures known { IsSeen self.old → IsSeen self.new }
+        ensures whole { self.old.absent ≡ None → self.new.absent ≡ None }
+        ensures loads { Loads 2 self.old self.new }
+        ensures idle { HasPixels lo.now hi.now self.old → self.new ≡ self.old }
+        ensures at_once { HasPixels lo.now hi.now self.old → IsOk result }
+        ensures quiet { OnOk result (log.new.failures ≡ log.old.failures) }
+        ensures counted { IfErr result (LoadCounts log.old.failures log.new.failures) }
+        ensures steady { (told : List ℕ) → IsOf told log.new
+            → LiesIn told self.old.plane self.old.absent
+            → IfErr result (λ why. why ≡ LoadFault.Changed → ⊥) }
+        ensures follows { Follows log.old log.new }
+        ensures size { length room.new ≡ length room.old }
+    {
+        let Some(_kind) = self.kind else {
+            return Ok(());
+        };
+        let axes = self.header.shape().axes.as_slice();
+        if is_rectangle(axes, lo, hi) {
+            return self.unit.load_rect(alloc, file, log, room, axes, lo, hi);
+        }
+        self.unit.know(file, log, room)
+    }
+
+    /// Writes the header and then the data unit: what is in memory of it, and the rest as the file has
+    /// it at its place, through a room of one block at least. What is copied is compared with what is
+    /// known of it, by its length and its total. Each card's read is counted.
     ///
     /// Where a call fails a prefix was written.
     pub fn emit_from<F: Stored, W: Sink>(

@@ -28,11 +28,11 @@ impl Hdu {
         Some(self.unit.value_stats(kind.offset()))
     }
 
-    /// The values of a rectangle of pixels, in file order. Corners count from 1, and each pixel is
-    /// read once.
+    /// The values of a rectangle of pixels, which are in memory, in file order. Corners count from 1, and
+    /// each pixel is read once.
     #[tactic(auto, using(crate::proofs::PixelLemmas::pixel_steps))]
     pub fn rect(&mut self, alloc: Global, lo: &[u64], hi: &[u64]) -> Result<Vec<i128>, PixelFault>
-        requires { HasPixels self.old }
+        requires { HasPixels lo.now hi.now self.old }
         ensures ok { IfOk result (λ values. rect_of
             self.old.header.shape lo.now hi.now (parts_of self.old) ≡ Ok values.items) }
         ensures err { IfErr result (RectFails (rect_of
@@ -57,12 +57,12 @@ impl Hdu {
         Ok(values)
     }
 
-    /// Paints a rectangle of pixels. Corners count from 1.
+    /// Paints a rectangle of pixels, which are in memory. Corners count from 1.
     ///
     /// It takes no memory. Of the data unit it scans the blocks that hold a byte of the rectangle.
     #[tactic(auto, using(crate::proofs::PixelLemmas::pixel_steps))]
     pub fn paint(&mut self, lo: &[u64], hi: &[u64], paint: &LentPaint) -> Result<(), PixelFault>
-        requires { HasPixels self.old }
+        requires { HasPixels lo.now hi.now self.old }
         ensures ok { OnOk result (painted
             self.old.header.shape lo.now hi.now paint.now (parts_of self.old)
             ≡ Ok (parts_of self.new)) }
@@ -71,7 +71,6 @@ impl Hdu {
         ensures same { OnErr result (self.new ≡ self.old) }
         ensures rest { self.new ≡ record self.old { plane = self.new.plane } }
         ensures work { OnOk result (IsPatchedIn lo.now hi.now self.old self.new) }
-        ensures held { OnOk result (self.new.absent ≡ None) }
         ensures described { IsDescribed self.old }
     {
         let kind = self.paintable(lo, hi, paint)?;

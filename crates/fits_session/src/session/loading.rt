@@ -63,7 +63,7 @@ impl<H: Holder + Drop> Session<H> {
     ghost use Rattle.fits_session.specs.Away.{EditWantsData, IsTold, LieStill, LoadsAll, LoadsAt, LoadsFor, LoadWork};
     ghost use Rattle.fits_session.specs.Edit.{hdu_of};
     ghost use Rattle.fits_session.specs.Query.{array_in, kind_in};
-    ghost use Rattle.fits_session.specs.Session.{file_of, marked_of, reads_of, session_at, works_of, HasPixels, HasStats, IsHeld, IsReadyFor, IsSeen, IsSoOf, NeedsData, WorksOnly};
+    ghost use Rattle.fits_session.specs.Session.{file_of, marked_of, reads_of, session_at, works_of, HasImage, HasPixels, HasStats, IsHeld, IsReadyFor, IsSeen, IsSoOf, NeedsData, WorksOnly};
     ghost use Rattle.fits_making.specs.Making.{HasArray};
 
     /// Has the data unit of HDU h known, if there is one: where it is unread its bytes pass by, as it
@@ -75,7 +75,7 @@ impl<H: Holder + Drop> Session<H> {
         ensures wanted { OnErr result (IsSome (hdu_of (file_of self.old) h)) }
         ensures same { (told : List ℕ) → IsTold H.whole told log.new self.old.hdus
             → OnOk result (marked_of (session_at told self.new) ≡ marked_of (session_at told self.old)) }
-        ensures alone { LoadsAt h self.old self.new }
+        ensures alone { LoadsAt 1 h self.old self.new }
         ensures idle { IsSoOf IsSeen h self.old.hdus → self.new ≡ self.old }
         ensures at_once { IsSoOf IsSeen h self.old.hdus → IsOk result }
         ensures quiet { OnOk result (log.new.failures ≡ log.old.failures) }
@@ -126,7 +126,7 @@ impl<H: Holder + Drop> Session<H> {
         ensures held { OnOk result (IsSoOf IsHeld h self.new.hdus) }
         ensures same { (told : List ℕ) → IsTold H.whole told log.new self.old.hdus
             → OnOk result (marked_of (session_at told self.new) ≡ marked_of (session_at told self.old)) }
-        ensures alone { LoadsAt h self.old self.new }
+        ensures alone { LoadsAt 1 h self.old self.new }
         ensures idle { IsSoOf IsHeld h self.old.hdus → self.new ≡ self.old }
         ensures at_once { IsSoOf IsHeld h self.old.hdus → IsOk result }
         ensures quiet { OnOk result (log.new.failures ≡ log.old.failures) }
@@ -149,17 +149,26 @@ impl<H: Holder + Drop> Session<H> {
         self.holder.load(self.alloc, &mut self.hdus[i], log)
     }
 
-    /// Has the pixels of HDU h in memory, if it is there and an image of integers, as `load`.
-    pub fn load_pixels(&mut self, h: usize, log: &mut ReadLog) -> Result<(), LoadFault>
-        ensures held { OnOk result (IsSoOf HasPixels h self.new.hdus) }
+    /// Has the pixels of a rectangle of HDU h in memory, if it is there and an image of integers: of a
+    /// large data unit the pieces that hold them are read, once all of it passed by. Corners count from
+    /// 1. Reads that fail are counted.
+    ///
+    /// Where a call fails, what was read before may stay.
+    pub fn load_pixels(
+        &mut self,
+        h: usize,
+        lo: &[u64],
+        hi: &[u64],
+        log: &mut ReadLog,
+    ) -> Result<(), LoadFault>
+        ensures held { OnOk result (IsSoOf (HasPixels lo.now hi.now) h self.new.hdus) }
         ensures wanted { OnErr result (IsOk (kind_in (file_of self.old) h)) }
         ensures same { (told : List ℕ) → IsTold H.whole told log.new self.old.hdus
-            → OnOk result (marked_of (session_at told self.new) ≡ marked_of (session_at told self.old)) }
-        ensures alone { LoadsAt h self.old self.new }
-        ensures idle { IsSoOf HasPixels h self.old.hdus → self.new ≡ self.old }
-        ensures at_once { IsSoOf HasPixels h self.old.hdus → IsOk result }
+            → marked_of (session_at told self.new) ≡ marked_of (session_at told self.old) }
+        ensures alone { LoadsAt 2 h self.old self.new }
+        ensures idle { IsSoOf (HasPixels lo.now hi.now) h self.old.hdus → self.new ≡ self.old }
+        ensures at_once { IsSoOf (HasPixels lo.now hi.now) h self.old.hdus → IsOk result }
         ensures quiet { OnOk result (log.new.failures ≡ log.old.failures) }
-        ensures err { OnErr result (self.new ≡ self.old) }
         ensures counted { IfErr result (LoadCounts log.old.failures log.new.failures) }
         ensures unchanged { (told : List ℕ) → IsTold H.whole told log.new self.old.hdus
             → IfErr result (λ why. why ≡ LoadFault.Changed → ⊥) }
@@ -169,10 +178,11 @@ impl<H: Holder + Drop> Session<H> {
         ensures seen { All IsSeen self.old.hdus → All IsSeen self.new.hdus }
         ensures whole { H.whole ≡ true → IsOk result }
     {
-        if self.is_image(h) {
-            return self.load(h, log);
-        }
-        Ok(())
+        let Ok(i) = index_of(&self.hdus, h) else {
+            return Ok(());
+        };
+        self.holder
+            .load_rect(self.alloc, &mut self.hdus[i], lo, hi, log)
     }
 
     // Has the pixels of HDU h in memory, if it is there and an array of integers.
@@ -181,7 +191,7 @@ impl<H: Holder + Drop> Session<H> {
         ensures wanted { OnErr result (IsOk (array_in (file_of self.old) h)) }
         ensures same { (told : List ℕ) → IsTold H.whole told log.new self.old.hdus
             → OnOk result (marked_of (session_at told self.new) ≡ marked_of (session_at told self.old)) }
-        ensures alone { LoadsAt h self.old self.new }
+        ensures alone { LoadsAt 1 h self.old self.new }
         ensures idle { IsSoOf HasArray h self.old.hdus → self.new ≡ self.old }
         ensures at_once { IsSoOf HasArray h self.old.hdus → IsOk result }
         ensures quiet { OnOk result (log.new.failures ≡ log.old.failures) }
@@ -201,18 +211,17 @@ impl<H: Holder + Drop> Session<H> {
         Ok(())
     }
 
-    /// Has the data that an edit wants in memory, as `load`, or known, as `know`.
+    /// Has the data that an edit wants in memory, as `load_pixels` or `load`, or known, as `know`.
     pub fn load_for(&mut self, edit: &Edit, log: &mut ReadLog) -> Result<(), LoadFault>
         ensures ready { OnOk result (IsReadyFor edit.now self.new.hdus) }
         ensures needed { OnErr result (NeedsData edit.now) }
         ensures wanted { OnErr result (EditWantsData (file_of self.old) edit.now) }
         ensures same { (told : List ℕ) → IsTold H.whole told log.new self.old.hdus
-            → OnOk result (marked_of (session_at told self.new) ≡ marked_of (session_at told self.old)) }
+            → marked_of (session_at told self.new) ≡ marked_of (session_at told self.old) }
         ensures alone { LoadsFor edit.now self.old self.new }
         ensures idle { IsReadyFor edit.now self.old.hdus → self.new ≡ self.old }
         ensures at_once { IsReadyFor edit.now self.old.hdus → IsOk result }
         ensures quiet { OnOk result (log.new.failures ≡ log.old.failures) }
-        ensures err { OnErr result (self.new ≡ self.old) }
         ensures counted { IfErr result (LoadCounts log.old.failures log.new.failures) }
         ensures unchanged { (told : List ℕ) → IsTold H.whole told log.new self.old.hdus
             → IfErr result (λ why. why ≡ LoadFault.Changed → ⊥) }
@@ -225,8 +234,8 @@ impl<H: Holder + Drop> Session<H> {
         match edit {
             Edit::Hdu {
                 hdu,
-                edit: HduEdit::Pixels { .. },
-            } => self.load_pixels(*hdu, log),
+                edit: HduEdit::Pixels { lo, hi, .. },
+            } => self.load_pixels(*hdu, lo.as_slice(), hi.as_slice(), log),
             Edit::Hdu {
                 hdu,
                 edit: HduEdit::Reshape { .. },
@@ -246,7 +255,7 @@ impl<H: Holder + Drop> Session<H> {
         ensures wanted { OnErr result (IsOk (kind_in (file_of self.old) h)) }
         ensures same { (told : List ℕ) → IsTold H.whole told log.new self.old.hdus
             → OnOk result (marked_of (session_at told self.new) ≡ marked_of (session_at told self.old)) }
-        ensures alone { LoadsAt h self.old self.new }
+        ensures alone { LoadsAt 1 h self.old self.new }
         ensures idle { IsSoOf HasStats h self.old.hdus → self.new ≡ self.old }
         ensures at_once { IsSoOf HasStats h self.old.hdus → IsOk result }
         ensures quiet { OnOk result (log.new.failures ≡ log.old.failures) }
@@ -275,9 +284,9 @@ impl<H: Holder + Drop> Session<H> {
     // Whether HDU h is there and an image of integers.
     fn is_image(&self, h: usize) -> bool
         ensures is { result ≡ true → IsOk (kind_in (file_of self.now) h) }
-        ensures held { result ≡ true → IsSoOf HasPixels h self.now.hdus
+        ensures held { result ≡ true → IsSoOf HasImage h self.now.hdus
             → IsSoOf IsHeld h self.now.hdus }
-        ensures none { result ≡ false → IsSoOf HasPixels h self.now.hdus }
+        ensures none { result ≡ false → IsSoOf HasImage h self.now.hdus }
     {
         match index_of(&self.hdus, h) {
             Ok(i) => self.hdus[i].kind().is_some(),
@@ -312,7 +321,7 @@ impl<H: Holder + Drop> Session<H> {
     fn has_counts(&self, h: usize) -> bool
         ensures known { result ≡ true → IsSoOf HasStats h self.now.hdus }
         ensures held { result ≡ false → IsSoOf HasStats h self.now.hdus
-            → IsSoOf HasPixels h self.now.hdus }
+            → IsSoOf HasImage h self.now.hdus }
     {
         match index_of(&self.hdus, h) {
             Ok(i) => self.hdus[i].is_counted(),

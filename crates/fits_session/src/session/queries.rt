@@ -202,7 +202,7 @@ impl<H: Holder + Drop> Session<H> {
     /// The values of a rectangle of HDU h, as `rect`. Its pixels are in memory: `load_pixels` sees to
     /// it.
     pub fn held_rect(&mut self, h: usize, lo: &[u64], hi: &[u64]) -> Result<Vec<i128>, Refusal>
-        requires { IsSoOf HasPixels h self.old.hdus }
+        requires { IsSoOf (HasPixels lo.now hi.now) h self.old.hdus }
         ensures ok { IfOk result (λ values. rect_in (file_of self.old) h lo.now hi.now
             ≡ Ok values.items) }
         ensures err { IfErr result (QueryFails (rect_in (file_of self.old) h lo.now hi.now)) }

@@ -1,9 +1,11 @@
-//! What a data unit keeps: a plane, and of one that isn't in memory what is known of it, if its bytes
-//! passed by, and its place.
+//! What a data unit keeps: a plane, and of one of which not all is in memory what is known of it, if its
+//! bytes passed by, and its place.
 
 use super::DataUnit;
 use crate::absent::Absent;
+use crate::away_at::AwayAt;
 use crate::away_unit::AwayUnit;
+use crate::part_unit::PartUnit;
 use crate::passed_unit::PassedUnit;
 use crate::unread_unit::UnreadUnit;
 use fits_plane::Plane;
@@ -14,14 +16,21 @@ fn apart(unit: DataUnit, away: Absent) {
     let DataUnit { plane, absent } = unit;
     let _plane: Plane = plane;
     let _absent: Option<Absent> = absent;
-    let Absent { unit, place } = away;
-    match unit {
-        AwayUnit::Passed(unit) => {
-            let _unit: PassedUnit = unit;
+    match away {
+        Absent::Away(at) => {
+            let AwayAt { unit, place } = at;
+            let _place: u64 = place;
+            match unit {
+                AwayUnit::Passed(unit) => {
+                    let _unit: PassedUnit = unit;
+                }
+                AwayUnit::Unread(unit) => {
+                    let _unit: UnreadUnit = unit;
+                }
+            }
         }
-        AwayUnit::Unread(unit) => {
-            let _unit: UnreadUnit = unit;
+        Absent::InPart(part) => {
+            let _part: PartUnit = part;
         }
     }
-    let _place: u64 = place;
 }

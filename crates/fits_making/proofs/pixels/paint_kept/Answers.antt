@@ -1,8 +1,9 @@
-use Rattle.std.proofs.Common.{◌≡◌, Bool, inl, inr, refl, ap, subst, ◌∙◌, arith}
+use Rattle.std.proofs.Common.{◌≡◌, Bool, inl, inr, refl, ap, sym, subst, ◌∙◌, arith}
 use Rattle.std.specs.Prelude.{is_some}
 use Rattle.std.proofs.lemmas.Result.{err_from_is_err_and}
 use Rattle.fits_card.specs.Header.{header_length}
 use Rattle.fits_rules.specs.Class.{is_primary}
+use Rattle.fits_unit.specs.DataUnit.{IsKnown}
 use Rattle.fits_passing.specs.Hdu.{HduParts}
 use Rattle.fits_hdu.specs.State.{HduState, parts_of}
 use Rattle.fits_hdu.specs.Work.{plane_work}
@@ -82,9 +83,11 @@ finish-requires-clause-small c =
     let left = painted_hdu primary hdu.header.shape (parts_of hdu) c.args.lo.now c.args.hi.now (plane_paint c.args.paint.now) (parts_of c.paint.new.self) n.ensures.whole n.ensures.described done in
     makes_small hdu.kept primary c.args.len c.args.hdus (parts_of hdu) (parts_of c.paint.new.self) (parts_of c.paint.new.self) left.0 refl (within ∙ c.if-not-keeps_limits.false)
 
--- its data are in memory
+-- its data are known, as they were
 pub finish-requires-clause-known : goal.finish-requires-clause-known
-finish-requires-clause-known c = λ on. rw c.in-Ok.ensures.held tt
+finish-requires-clause-known c =
+    let place = ap (λ (state : HduState). state.absent) c.in-Ok.ensures.rest ∙ ap (λ (state : HduState). state.absent) c.in_ok-reserve.ensures.rest in
+    λ on. subst IsKnown (sym place) (c.requires.known c.requires.kept)
 
 pub returns : goal.returns
 returns c =
@@ -105,6 +108,5 @@ returns c =
     (rw (c.as_slice-3.ensures, c.as_slice-4.ensures, header, room.shape, plane) at c.in-Ok.ensures.work)
     (ap (λ (state : HduState). state.entry) rest ∙ ap (λ (state : HduState). state.entry) room.rest)
     (ap (λ (state : HduState). state.kept) rest ∙ ap (λ (state : HduState). state.kept) room.rest)
-    c.in-Ok.ensures.held
     (ap (λ (state : HduState). state.absent) rest ∙ ap (λ (state : HduState). state.absent) room.rest)
     (subst (λ b. IsFinished b mid c.finish.new.hdu) stamps c.finish.ensures)

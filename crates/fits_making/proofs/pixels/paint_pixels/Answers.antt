@@ -25,6 +25,5 @@ returns c =
     (rw (c.as_slice.ensures, c.as_slice-2.ensures) at c.in_ok-paint.ensures.work)
     (ap (λ (state : HduState). state.entry) rest)
     (ap (λ (state : HduState). state.kept) rest)
-    c.in_ok-paint.ensures.held
     (ap (λ (state : HduState). state.absent) rest)
     (unstamped_finished hdu.kept new unkept (rw (ap (λ (state : HduState). state.header) rest) c.paint.ensures.described))

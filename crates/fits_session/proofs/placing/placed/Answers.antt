@@ -21,7 +21,7 @@ loop-it-init c =
     let rest : List PassedHdu = c.into_iter-it-iterator.result.rest.items in
     let same : rest ≡ c.args.passed.items = c.into_iter-it-iterator.ensures.into_iter_gives.0 in
     record {
-      there = λ told. ap (λ (hdus : List HduState). hdus_of (map (hdu_at told) hdus) ++ all_there told 0 rest) none ∙ ap (all_there told 0) same;
+      there = λ told lie. ap (λ (hdus : List HduState). hdus_of (map (hdu_at told) hdus) ++ all_there told 0 rest) none ∙ ap (all_there told 0) same;
       lie = λ told lie. (subst (AllLie told) (sym none) (All-nil (IsHad (in_file told))), subst (AllLieThere told 0) (sym same) lie);
       parts = ap (λ (hdus : List HduState). hdus_of hdus ++ map parts_met rest) none ∙ ap (map parts_met) same;
       end = sym (ap (λ (hdus : List HduState). length (joined_hdus (hdus_of hdus))) none);
@@ -75,7 +75,10 @@ loop-it-preserved c =
     let there : place ≡ 0 + length (joined_hdus (hdus_of c.loop-it.hdus.items)) + length (header_bytes one.header.header) = omega (arith, c.loop-it.invariant.end, header) in
     let few : hdus_end start (it ∷ c.next.new.self.rest.items) ≤ 2 ^ 34 = subst (λ (ks : List PassedHdu). hdus_end start ks ≤ 2 ^ 34) next c.loop-it.invariant.few in
     record {
-      there = λ told. pushed_there told c.loop-it.hdus.items c.push.new.self.items one start (place + c.byte_len-in-loop-it.result) it c.loop-it.it-iterator.rest.items c.next.new.self.rest.items _ c.in_ok-push.ensures.items (parts_placed told start place it one made.header made.unit made.opened place_is) last next (c.loop-it.invariant.there told);
+      there = λ told lie.
+          let was = c.loop-it.invariant.lie told lie in
+          let mine : AllLieThere told start (it ∷ c.next.new.self.rest.items) = subst (AllLieThere told start) next was.1 in
+          pushed_there told c.loop-it.hdus.items c.push.new.self.items one start (place + c.byte_len-in-loop-it.result) it c.loop-it.it-iterator.rest.items c.next.new.self.rest.items _ c.in_ok-push.ensures.items (parts_placed told start place it one made.header made.unit made.known made.opened place_is mine.0) last next (c.loop-it.invariant.there told lie);
       lie = λ told lie.
           let was = c.loop-it.invariant.lie told lie in
           let mine : AllLieThere told start (it ∷ c.next.new.self.rest.items) = subst (AllLieThere told start) next was.1 in

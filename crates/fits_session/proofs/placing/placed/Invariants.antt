@@ -8,7 +8,7 @@ use Rattle.fits_session.proofs.placing.placed.Given as goal
 
 abbrev pub invariant-loop-it : goal.invariant-loop-it
 invariant-loop-it l = record {
-  there : (told : List ℕ) → hdus_of (map (hdu_at told) l.hdus.items) ++ all_there told l.end l.it-iterator.rest.items ≡ all_there told 0 l.fn.passed.items;
+  there : (told : List ℕ) → AllLieThere told 0 l.fn.passed.items → hdus_of (map (hdu_at told) l.hdus.items) ++ all_there told l.end l.it-iterator.rest.items ≡ all_there told 0 l.fn.passed.items;
   lie : (told : List ℕ) → AllLieThere told 0 l.fn.passed.items → AllLie told l.hdus.items × AllLieThere told l.end l.it-iterator.rest.items;
   parts : hdus_of l.hdus.items ++ map parts_met l.it-iterator.rest.items ≡ map parts_met l.fn.passed.items;
   end : l.end ≡ length (joined_hdus (hdus_of l.hdus.items));

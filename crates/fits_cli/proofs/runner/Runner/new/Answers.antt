@@ -3,7 +3,6 @@ use Rattle.fits_session.specs.Marked.{Marked}
 use Rattle.fits_cli.specs.Answer.{Standing}
 use Rattle.fits_cli.specs.Terms.{is_whole}
 use Rattle.fits_cli.proofs.FirstLemmas.{first_over, look_sums}
-use Rattle.fits_cli.proofs.UnderWayLemmas.{lie_told}
 use Rattle.fits_cli.proofs.runner.Runner.new.Goals as goal
 
 pub invariant_of-result : goal.invariant_of-result
@@ -14,8 +13,7 @@ invariant_of-result g c = record {
 }
 
 pub returns-clause-standing : goal.returns-clause-standing
-returns-clause-standing g c told by =
-    let lie = lie_told g.H.Holder.whole told c.args.log c.args.session.hdus c.is_sound.ensures.held c.requires.lie by in
-    let marks = first_over c.args.terms told c.args.session c.keep_first.new.session c.keep_first.ensures.marked c.keep_first.ensures.absences (λ sums. c.requires.seen (look_sums c.args.terms sums)) lie in
+returns-clause-standing g c told _ =
+    let marks = first_over c.args.terms told c.args.session c.keep_first.new.session c.keep_first.ensures.marked c.keep_first.ensures.absences (λ sums. c.requires.seen (look_sums c.args.terms sums)) in
     rw c.whole.ensures
     (ap (λ (it : Marked). let s : Standing = record { marked = it; line = 1; refused = 0; edited = false; whole = is_whole c.args.terms.saves; extended = c.args.terms.extended } in s) marks)

@@ -4,19 +4,17 @@ use Rattle.fits_session.specs.Session.{absences_of, file_of, marked_of, session_
 use Rattle.fits_session.proofs.OrderLemmas.{in_order}
 use Rattle.fits_cli.specs.NewTables.{table_problems}
 use Rattle.fits_cli.specs.Reports.{reports_of}
-use Rattle.fits_cli.specs.Running.{Progress, IsToldBy}
+use Rattle.fits_cli.specs.Running.{Progress}
 use Rattle.fits_cli.proofs.OverLemmas.{seen_file}
-use Rattle.fits_cli.proofs.UnderWayLemmas.{lie_told, looked_over}
+use Rattle.fits_cli.proofs.UnderWayLemmas.{looked_over}
 use Rattle.fits_cli.proofs.runner.Runner.reports.Goals as goal
 
 -- all was looked at, so the file is the same over each that its reads may be of
 pub returns-clause-value : goal.returns-clause-value
 unfolding reports_of
-returns-clause-value g c told by =
+returns-clause-value g c told _ =
     let session : SessionState = c.self.inside.session in
-    let own : IsToldBy g.H.Holder.whole told c.self.inside.log = rw (← c.self.view_is) at by in
-    let lie = lie_told g.H.Holder.whole told c.self.inside.log session.hdus c.is_sound.ensures.held c.self.invariant.lie own in
-    let same : file_of (session_at told session) ≡ file_of session = seen_file told session (c.self.invariant.seen (rw (← c.self.view_is) at c.requires)) lie in
+    let same : file_of (session_at told session) ≡ file_of session = seen_file told session (c.self.invariant.seen (rw (← c.self.view_is) at c.requires)) in
     let problems : c.in_ok-problems.problems.items ≡ report_of (file_of session) = c.in_ok-problems.ensures.value in
     let tables : c.in_ok-tables.tables.items ≡ table_problems c.args.tables (file_of session) = rw c.known_report.ensures.same at c.in_ok-tables.ensures.value in
     rw (← c.self.view_is) (rw (problems, tables, same) refl)

@@ -72,5 +72,13 @@ invariant_of-self c =
       sums = kept.sums;
     }
 
+-- so its pixels are in memory
 pub paint_rect-requires-clause-held : goal.paint_rect-requires-clause-held
-paint_rect-requires-clause-held c = subst HasPixels (sym c.self.view_is) c.requires c.in_ok-kind.kind (subst (λ (s : HduState). kind_in s.header.shape s.header.header.cards ≡ Some c.in_ok-kind.kind) (sym c.self.view_is) c.in_ok-kind.ensures.kind)
+paint_rect-requires-clause-held c =
+    let kind = c.in_ok-kind.kind in
+    let e = c.in_ok-kind.ensures in
+    let some = subst (λ (s : HduState). kind_in s.header.shape s.header.header.cards ≡ Some kind) (sym c.self.view_is) e.kind in
+    let within = subst (λ (s : HduState). IsRectangle s.header.shape.axes c.args.lo.now c.args.hi.now) (sym c.self.view_is) e.rectangle in
+    let axes = c.as_slice-axes.ensures ∙ ap (λ (shape : Shape). shape.axes) c.shape.ensures.value in
+    let has = subst (HasPixels c.args.lo.now c.args.hi.now) (sym c.self.view_is) c.requires kind some in
+    rw axes (has.pixels within)

@@ -1,6 +1,6 @@
 use Rattle.std.proofs.Common.{◌≡◌, ◌∙◌, ap, sym, subst, rules, refl, ℤ, List, None, true, false}
 use Rattle.std.specs.Prelude.{Result, Err, Ok, IsOk}
-use Rattle.fits_plane.specs.Rectangle.{lies_within, product, rectangle_values}
+use Rattle.fits_plane.specs.Rectangle.{lies_within, product, rectangle_values, IsRectangle}
 use Rattle.fits_rules.specs.declared.array_shape.Shape.{Shape}
 use Rattle.fits_passing.specs.Hdu.{HduParts}
 use Rattle.fits_image.specs.Kind.{offset_of, width_of}
@@ -61,5 +61,10 @@ rect-requires-clause-all c =
     let axes = c.as_slice-axes.ensures ∙ ap (λ (shape : Shape). shape.axes) c.shape.ensures.value in
     ap product axes ∙ plane_pixels t.unit.plane.layout t.header.shape t.header.header.cards c.in-Some.kind t.kind c.self.invariant.layout c.self.invariant.kind some
 
+-- the rectangle is one of the image, so its pixels are in memory
 pub rect-requires-clause-held : goal.rect-requires-clause-held
-rect-requires-clause-held c = subst HasPixels (sym c.self.view_is) c.requires c.in-Some.kind (sym c.self.invariant.kind ∙ c.in-Some.is)
+rect-requires-clause-held c =
+    let has = subst (HasPixels c.args.lo.now c.args.hi.now) (sym c.self.view_is) c.requires c.in-Some.kind (sym c.self.invariant.kind ∙ c.in-Some.is) in
+    let axes = c.as_slice-axes.ensures ∙ ap (λ (shape : Shape). shape.axes) c.shape.ensures.value in
+    let rectangle : IsRectangle c.as_slice-axes.result.now c.args.lo.now c.args.hi.now = search rules in
+    rw axes (has.pixels (rw axes at rectangle))

@@ -1,14 +1,21 @@
-use Rattle.fits_hdu.specs.State.{HduState}
+use Rattle.fits_hdu.specs.State.{HduState, HasPixels}
 use Rattle.std.specs.Prelude.{All}
-use Rattle.std.proofs.Common.{set, ap, refl}
+use Rattle.std.proofs.Common.{set, ap, refl, sym}
 use Rattle.std.proofs.lemmas.Result.{err_from_is_err_and}
 use Rattle.fits_session.specs.Away.{in_file, AllLie}
-use Rattle.fits_session.specs.Session.{IsSeen, uncounted}
+use Rattle.fits_session.specs.Session.{uncounted, IsSeen, IsSoOf}
 use Rattle.fits_session.proofs.HadLemmas.{kept_in}
 use Rattle.fits_session.proofs.KeptLemmas.{seen_same, described_at, kept_read}
 use Rattle.fits_session.proofs.QueryLemmas.{rect_asks, rect_fails, rect_ok}
 use Rattle.fits_session.proofs.StateLemmas.{absences_of-same, is_at}
 use Rattle.fits_session.proofs.session.Session.held_rect.Goals as goal
+
+-- its pixels are in memory
+pub rect-requires : goal.rect-requires
+rect-requires g c =
+    let at = is_at c.self.inside.hdus.items c.deref.result.now c.args.h c.args.h c.in_ok-i.i c.index_mut-hdu.result.now c.deref.ensures.value refl c.in_ok-i.ensures.found c.index_mut-hdu.ensures.value in
+    let own : IsSoOf (HasPixels c.args.lo.now c.args.hi.now) c.args.h c.self.inside.hdus.items = rw (← c.self.view_is) at c.requires in
+    own c.in_ok-i.i c.index_mut-hdu.result.now at.index (sym at.is)
 
 pub returns-in_err-values-clause-err : goal.returns-in_err-values-clause-err
 returns-in_err-values-clause-err g c =

@@ -1,7 +1,7 @@
 use Rattle.std.proofs.Common.{ap, refl, sym, ◌∙◌}
 use Rattle.fits_rules.specs.Image.{array_bits}
 use Rattle.fits_hdu.specs.State.{HduState}
-use Rattle.fits_session.proofs.AwayLemmas.{none_held, some_held}
+use Rattle.fits_session.proofs.LoadedLemmas.{none_held, some_held}
 use Rattle.fits_session.proofs.QueryLemmas.{array_is}
 use Rattle.fits_session.proofs.StateLemmas.{is_at}
 use Rattle.fits_session.proofs.session.Session.is_array.Goals as goal

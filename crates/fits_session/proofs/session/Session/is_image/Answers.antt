@@ -1,7 +1,7 @@
 use Rattle.std.proofs.Common.{refl, sym, ◌∙◌}
 use Rattle.fits_image.specs.Kind.{kind_in}
 use Rattle.fits_hdu.specs.State.{HduState}
-use Rattle.fits_session.proofs.AwayLemmas.{none_held, some_held}
+use Rattle.fits_session.proofs.LoadedLemmas.{none_held, some_held}
 use Rattle.fits_session.proofs.QueryLemmas.{image_is}
 use Rattle.fits_session.proofs.StateLemmas.{is_at}
 use Rattle.fits_session.proofs.session.Session.is_image.Goals as goal

@@ -1,6 +1,6 @@
-use Rattle.std.proofs.Common.{◌≡◌, refl, sym, ◌∙◌}
+use Rattle.std.proofs.Common.{refl, sym}
 use Rattle.fits_session.specs.Session.{IsSeen, IsSoOf}
-use Rattle.fits_session.proofs.AwayLemmas.{not_both}
+use Rattle.fits_session.proofs.LoadedLemmas.{not_both}
 use Rattle.fits_session.proofs.StateLemmas.{is_at}
 use Rattle.fits_session.proofs.session.Session.is_unread.Goals as goal
 

@@ -1,10 +1,10 @@
-use Rattle.std.proofs.Common.{◌≡◌, ap, set, inr, refl, subst, sym, None, true}
+use Rattle.std.proofs.Common.{ap, set, inr, refl, subst, sym, None}
 use Rattle.std.specs.Prelude.{All}
 use Rattle.fits_hdu.specs.State.{HduState}
-use Rattle.fits_session.specs.Away.{in_file, IsTold, LoadWork}
-use Rattle.fits_session.specs.Session.{file_of, state_of, IsHeld, IsSeen, IsSoOf}
+use Rattle.fits_session.specs.Away.{IsTold, LoadWork}
+use Rattle.fits_session.specs.Session.{file_of, state_of, IsSeen, IsSoOf}
 use Rattle.fits_making.specs.Making.{Holding, IsHad}
-use Rattle.fits_session.proofs.AwayLemmas.{all_seen_after, at_set, counted_stats, err_or, held_seen, idle_stays, kept_loaded, known_had, load_work, loaded_had, loaded_parts, loaded_same, loaded_told, loads_alone, so_nowhere, so_there, told_on}
+use Rattle.fits_session.proofs.LoadedLemmas.{all_seen_still, at_set, counted_stats, err_or, had_there, idle_seen, idle_stays, kept_loaded, load_work, loaded_same, loaded_told, loads_alone, so_nowhere, so_there, told_on}
 use Rattle.fits_session.proofs.HadLemmas.{seen_held}
 use Rattle.fits_session.proofs.StateLemmas.{hdu_of-there, is_at, reads_of-same, works_nowhere, works_there}
 use Rattle.fits_session.proofs.session.Session.know.Goals as goal
@@ -17,7 +17,7 @@ invariant_of-self g c =
     let holding : Holding = record { whole = g.H.Holder.whole; told = None } in
     let at = is_at c.self.inside.hdus.items c.deref.result.now c.args.h c.args.h c.in-Ok.i c.index_mut.result.now c.deref.ensures.value refl c.in-Ok.ensures.found c.index_mut.ensures.value in
     let was : IsHad holding c.index_mut.result.now = subst (IsHad holding) (sym at.is) (c.self.invariant.had c.in-Ok.i c.index_mut.result.now at.index.within) in
-    kept_loaded holding c.self.inside.hdus.items c.self.inside.tail.items c.args.h c.in-Ok.i c.self.inside.len c.self.inside.names.numbers.items c.self.inside.names.room c.index_mut.result.now c.know.new.hdu at c.self.invariant c.know.ensures.loads
+    kept_loaded 1 holding c.self.inside.hdus.items c.self.inside.tail.items c.args.h c.in-Ok.i c.self.inside.len c.self.inside.names.numbers.items c.self.inside.names.room c.index_mut.result.now c.know.new.hdu at c.self.invariant c.know.ensures.loads
     c.know.ensures.had
 
 pub returns-clause-same : goal.returns-clause-same
@@ -37,13 +37,13 @@ pub returns-clause-told : goal.returns-clause-told
 returns-clause-told g c told all =
     let at = is_at c.self.inside.hdus.items c.deref.result.now c.args.h c.args.h c.in-Ok.i c.index_mut.result.now c.deref.ensures.value refl c.in-Ok.ensures.found c.index_mut.ensures.value in
     let own : IsTold g.H.Holder.whole told c.know.new.log c.self.inside.hdus.items = rw (← c.self.view_is) at all in
-    loaded_told g.H.Holder.whole told c.know.new.log c.self.inside.hdus.items c.in-Ok.i c.index_mut.result.now c.know.new.hdu at.index.within at.is (λ away of was. known_had c.know.result g.H.Holder.whole told c.know.new.log c.index_mut.result.now c.know.new.hdu away c.know.ensures.known c.know.ensures.err (c.know.ensures.lies told) of was) own
+    loaded_told g.H.Holder.whole told c.know.new.log c.self.inside.hdus.items c.in-Ok.i c.index_mut.result.now c.know.new.hdu at.index.within at.is (λ away of was. had_there g.H.Holder.whole told c.know.new.log c.index_mut.result.now c.know.new.hdu away c.know.ensures.loads (idle_seen c.index_mut.result.now c.know.new.hdu c.know.ensures.idle) (c.know.ensures.lies told) of was) own
 
 pub returns-clause-seen : goal.returns-clause-seen
 returns-clause-seen g c all =
     let at = is_at c.self.inside.hdus.items c.deref.result.now c.args.h c.args.h c.in-Ok.i c.index_mut.result.now c.deref.ensures.value refl c.in-Ok.ensures.found c.index_mut.ensures.value in
     let own : All IsSeen c.self.inside.hdus.items = rw (← c.self.view_is) at all in
-    all_seen_after c.know.result c.self.inside.hdus.items c.in-Ok.i c.index_mut.result.now c.know.new.hdu at.index.within at.is c.know.ensures.known c.know.ensures.err own
+    all_seen_still c.self.inside.hdus.items c.in-Ok.i c.index_mut.result.now c.know.new.hdu at.index.within at.is (idle_seen c.index_mut.result.now c.know.new.hdu c.know.ensures.idle) own
 
 pub returns-clause-alone : goal.returns-clause-alone
 returns-clause-alone g c =
@@ -62,9 +62,8 @@ returns-clause-reads g c =
 
 pub returns-clause-work : goal.returns-clause-work
 returns-clause-work g c =
-    let holding : Holding = record { whole = g.H.Holder.whole; told = None } in
     let at = is_at c.self.inside.hdus.items c.deref.result.now c.args.h c.args.h c.in-Ok.i c.index_mut.result.now c.deref.ensures.value refl c.in-Ok.ensures.found c.index_mut.ensures.value in
-    let work = load_work holding c.self.inside.hdus.items c.self.inside.tail.items c.args.h c.in-Ok.i c.self.inside.len c.self.inside.names.numbers.items c.self.inside.names.room c.index_mut.result.now c.know.new.hdu at c.self.invariant c.know.ensures.loads in
+    let work = load_work c.self.inside.hdus.items c.self.inside.tail.items c.args.h c.in-Ok.i c.index_mut.result.now c.know.new.hdu at c.know.ensures.loads in
     rw (← c.self.view_is) (works_there c.self.inside.hdus.items c.args.h c.in-Ok.i (LoadWork (file_of (state_of c.self.inside.hdus.items c.self.inside.tail.items)) c.args.h) c.index_mut.result.now c.know.new.hdu at work)
 
 pub returns-clause-whole : goal.returns-clause-whole

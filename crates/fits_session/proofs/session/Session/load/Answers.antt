@@ -1,10 +1,10 @@
-use Rattle.std.proofs.Common.{◌≡◌, ap, inr, refl, subst, sym, None, true}
+use Rattle.std.proofs.Common.{ap, inr, refl, subst, sym, None}
 use Rattle.std.specs.Prelude.{All}
 use Rattle.fits_hdu.specs.State.{HduState}
 use Rattle.fits_session.specs.Away.{in_file, IsTold, LoadWork}
 use Rattle.fits_session.specs.Session.{file_of, state_of, IsHeld, IsSeen, IsSoOf}
 use Rattle.fits_making.specs.Making.{Holding, IsHad}
-use Rattle.fits_session.proofs.AwayLemmas.{all_seen_after, held_seen, idle_stays, kept_loaded, known_had, load_work, loaded_had, loaded_parts, loaded_same, loaded_told, loads_alone, so_there, told_on}
+use Rattle.fits_session.proofs.LoadedLemmas.{all_seen_after, held_seen, idle_stays, kept_loaded, load_work, loaded_had, loaded_parts, loaded_same, loaded_told, loads_alone, told_on}
 use Rattle.fits_session.proofs.StateLemmas.{is_at, reads_of-same, works_nowhere, works_there}
 use Rattle.fits_session.proofs.session.Session.load.Goals as goal
 
@@ -16,7 +16,7 @@ invariant_of-self g c =
     let holding : Holding = record { whole = g.H.Holder.whole; told = None } in
     let at = is_at c.self.inside.hdus.items c.deref.result.now c.args.h c.args.h c.in-Ok.i c.index_mut.result.now c.deref.ensures.value refl c.in-Ok.ensures.found c.index_mut.ensures.value in
     let was : IsHad holding c.index_mut.result.now = subst (IsHad holding) (sym at.is) (c.self.invariant.had c.in-Ok.i c.index_mut.result.now at.index.within) in
-    kept_loaded holding c.self.inside.hdus.items c.self.inside.tail.items c.args.h c.in-Ok.i c.self.inside.len c.self.inside.names.numbers.items c.self.inside.names.room c.index_mut.result.now c.load.new.hdu at c.self.invariant c.load.ensures.loads
+    kept_loaded 1 holding c.self.inside.hdus.items c.self.inside.tail.items c.args.h c.in-Ok.i c.self.inside.len c.self.inside.names.numbers.items c.self.inside.names.room c.index_mut.result.now c.load.new.hdu at c.self.invariant c.load.ensures.loads
     (loaded_had c.load.result holding c.index_mut.result.now c.load.new.hdu c.load.ensures.held c.load.ensures.err was)
 
 pub returns-clause-same : goal.returns-clause-same
@@ -61,9 +61,8 @@ returns-clause-reads g c =
 
 pub returns-clause-work : goal.returns-clause-work
 returns-clause-work g c =
-    let holding : Holding = record { whole = g.H.Holder.whole; told = None } in
     let at = is_at c.self.inside.hdus.items c.deref.result.now c.args.h c.args.h c.in-Ok.i c.index_mut.result.now c.deref.ensures.value refl c.in-Ok.ensures.found c.index_mut.ensures.value in
-    let work = load_work holding c.self.inside.hdus.items c.self.inside.tail.items c.args.h c.in-Ok.i c.self.inside.len c.self.inside.names.numbers.items c.self.inside.names.room c.index_mut.result.now c.load.new.hdu at c.self.invariant c.load.ensures.loads in
+    let work = load_work c.self.inside.hdus.items c.self.inside.tail.items c.args.h c.in-Ok.i c.index_mut.result.now c.load.new.hdu at c.load.ensures.loads in
     rw (← c.self.view_is) (works_there c.self.inside.hdus.items c.args.h c.in-Ok.i (LoadWork (file_of (state_of c.self.inside.hdus.items c.self.inside.tail.items)) c.args.h) c.index_mut.result.now c.load.new.hdu at work)
 
 pub returns-clause-whole : goal.returns-clause-whole

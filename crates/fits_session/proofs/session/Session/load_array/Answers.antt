@@ -1,5 +1,5 @@
 use Rattle.std.proofs.lemmas.Result.{on_ok_weaker}
-use Rattle.fits_session.proofs.AwayLemmas.{held_array}
+use Rattle.fits_session.proofs.LoadedLemmas.{held_array}
 use Rattle.fits_session.proofs.session.Session.load_array.Goals as goal
 
 pub returns-then-is_array-clause-held : goal.returns-then-is_array-clause-held

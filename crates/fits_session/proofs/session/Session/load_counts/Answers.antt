@@ -1,5 +1,5 @@
 use Rattle.std.proofs.lemmas.Result.{on_ok_weaker}
-use Rattle.fits_session.proofs.AwayLemmas.{held_known, held_pixels, held_stats, so_known}
+use Rattle.fits_session.proofs.LoadedLemmas.{held_known, held_stats, so_known}
 use Rattle.fits_session.proofs.session.Session.load_counts.Goals as goal
 
 -- it is no image

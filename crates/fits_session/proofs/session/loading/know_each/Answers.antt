@@ -1,10 +1,10 @@
-use Rattle.std.proofs.Common.{All, ◌≡◌, ◌+◌, ◌≤◌, ◌∙◌, ℕ, List, [], ap, arith, length, refl, subst, sym, take}
+use Rattle.std.proofs.Common.{All, ◌+◌, ◌∙◌, ap, arith, refl, subst}
 use Rattle.std.proofs.lemmas.List.{take_all}
 use Rattle.std.proofs.lemmas.List.Elements.{All-nil}
 use Rattle.std.proofs.lemmas.Result.{err_from_is_err_and}
-use Rattle.fits_session.specs.Away.{IsTold, LoadsAll}
-use Rattle.fits_session.specs.Session.{marked_of, reads_of, session_at, IsSeen, SessionState}
-use Rattle.fits_session.proofs.AwayLemmas.{all_more, each_count, each_none, first_more, rest_more, so_all}
+use Rattle.fits_session.specs.Away.{IsTold}
+use Rattle.fits_session.specs.Session.{marked_of, session_at, IsSeen, SessionState}
+use Rattle.fits_session.proofs.LoadedLemmas.{all_more, each_count, each_none, first_more, rest_more, so_all}
 use Rattle.fits_session.proofs.HadLemmas.{told_before}
 use Rattle.fits_session.proofs.StateLemmas.{length-hdus_of}
 use Rattle.fits_session.proofs.session.loading.know_each.Goals as goal

@@ -1,11 +1,10 @@
-use Rattle.std.proofs.Common.{◌≡◌, ◌+◌, ◌≤◌, ◌∙◌, List, ℕ, ap, arith, inl, length, map, refl, subst, sym}
+use Rattle.std.proofs.Common.{◌≤◌, List, ap, arith, length, map}
 use Rattle.std.proofs.lemmas.Grind.{common_steps}
 use Rattle.std.proofs.lemmas.List.{length-append}
-use Rattle.std.proofs.lemmas.Result.{err_from_is_err_and}
 use Rattle.fits_hdu.specs.State.{hdu_at}
 use Rattle.fits_passing.specs.Hdu.{HduParts}
 use Rattle.fits_passing.specs.File.{joined_hdus}
-use Rattle.fits_passing.specs.Met.{hdus_end, parts_met}
+use Rattle.fits_passing.specs.Met.{hdus_end}
 use Rattle.fits_passing.specs.declared.limits.TheConstants.{FILE_LIMIT}
 use Rattle.fits_passing.proofs.StoredLemmas.{rest_there}
 use Rattle.fits_session.specs.Session.{hdus_of}
@@ -19,7 +18,7 @@ returns-clause-ok g c = λ told is.
     let begins = c.in_ok-passed.ensures.begin told before in
     let size : length told ≤ FILE_LIMIT = c.in_ok-is_within_limit.ensures.within (grind (arith, common_steps)) told (c.walk_stored.ensures.follows told before) in
     let rest = rest_there (g.F.Stored.bytes c.walk_stored.new.source.file) (g.F.Stored.bytes c.read_tail.new.source.file) c.walk_stored.new.source c.read_tail.new.source c.walk_stored.new.intake c.read_tail.new.intake told c.in-Ok.tail.items (hdus_end 0 c.in_ok-passed.passed.items) c.in-Ok.ensures.ok c.in-Ok.ensures.over is begins.stands in
-    stored_file told c.in-Ok.tail.items c.in_ok-passed.passed.items (hdus_of (map (hdu_at told) c.in_ok-hdus.hdus.items)) c.walk_stored.new.intake c.walk_stored.new.source begins (c.in_ok-hdus.ensures.there told) rest c.in-Ok.ensures.ends c.in_ok-passed.ensures.some c.in_ok-passed.ensures.few size
+    stored_file told c.in-Ok.tail.items c.in_ok-passed.passed.items (hdus_of (map (hdu_at told) c.in_ok-hdus.hdus.items)) c.walk_stored.new.intake c.walk_stored.new.source begins (c.in_ok-hdus.ensures.there told begins.lie) rest c.in-Ok.ensures.ends c.in_ok-passed.ensures.some c.in_ok-passed.ensures.few size
 
 pub returns-clause-lie : goal.returns-clause-lie
 returns-clause-lie g c = λ told is. c.in_ok-hdus.ensures.lie told (c.in_ok-passed.ensures.begin told (taken_follows (g.F.Stored.bytes c.walk_stored.new.source.file) (g.F.Stored.bytes c.read_tail.new.source.file) c.walk_stored.new.source c.read_tail.new.source c.walk_stored.new.intake c.read_tail.new.intake c.in-Ok.tail.items c.in-Ok.ensures.ok told is)).lie

@@ -8,7 +8,7 @@ use Rattle.fits_making.specs.Making.{Holding, IsHad}
 use Rattle.std.proofs.lemmas.List.{length-map}
 use Rattle.fits_hdu.specs.State.{hdu_at}
 use Rattle.fits_session.specs.Away.{IsTold}
-use Rattle.fits_session.proofs.AwayLemmas.{told_on}
+use Rattle.fits_session.proofs.LoadedLemmas.{told_on}
 use Rattle.fits_session.proofs.KeptLemmas.{parts_same_at}
 use Rattle.fits_session.proofs.StateLemmas.{absences_of-same, length-hdus_of}
 use Rattle.fits_session.proofs.HadLemmas.{had_set, told_before}

@@ -1,0 +1,12 @@
+pub mod AwayLemmas
+pub mod BlocksLemmas
+pub mod LoadingLemmas
+pub mod MissingLemmas
+pub mod PaintedLemmas
+pub mod PaintingLemmas
+pub mod PassingLemmas
+pub mod PieceLemmas
+pub mod PiecesLemmas
+pub mod ReadingLemmas
+pub mod RescanLemmas
+pub mod RootLemmas

@@ -1,0 +1,5 @@
+pub mod Blocks
+pub mod Painting
+pub mod Passing
+pub mod Piece
+pub mod Pieces

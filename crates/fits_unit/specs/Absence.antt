@@ -1,0 +1,87 @@
+-- Where a data unit lies of which not all is in memory, and what is known of it (own).
+use Rattle.std.specs.Prelude.{◌≡◌, ◌<◌, ◌*◌, ◌-◌, ◌^◌, ℕ, ◌+◌, ◌≤◌, ℤ, Bool, true, false, if◌then◌else◌, List, [], get_or, length, take, drop, Option, None, Some, IfSome, IsSomeAnd}
+use Rattle.fits_pixels.specs.declared.layout.Layout.{Layout}
+use Rattle.fits_plane.specs.Plane.{PlaneState}
+use Rattle.fits_pieces.specs.Piece.{pieces_in}
+use Rattle.fits_pieces.specs.Pieces.{HoldsRectangle, PiecedState}
+
+-- where a data unit lies of which not all is in memory: its place in its file; whether its bytes passed by, so that it is known; the stored
+-- number of undefined pixels that its statistics leave out then; what passed by; and which of its pieces are in memory
+pub record Absence : Type 0 where
+  pub place : ℕ
+  pub known : Bool
+  pub blank : Option ℤ
+  pub passed : List ℕ
+  pub held : List Bool
+
+-- a data unit: its bytes, how they are read, and the work on them so far; and where it lies, if not all of it is in memory. Of one that
+-- isn't known there are zeros in place of its bytes
+pub record UnitState : Type 0 where
+  pub plane : PlaneState
+  pub absent : Option Absence
+
+-- with another stored number of undefined pixels
+abbrev pub blanked : Option ℤ → PlaneState → PlaneState
+blanked blank plane = record plane { layout = record plane.layout { blank = blank } }
+
+-- one of which pieces are in memory: as if all of it were, its place, the number that its statistics leave out, what passed by, and which
+-- pieces are
+pub record PartState : Type 0 where
+  pub plane : PlaneState
+  pub place : ℕ
+  pub blank : Option ℤ
+  pub passed : List ℕ
+  pub held : List Bool
+
+-- it lies where each of its bytes has a place of 64 bits, and its last piece is in memory, and has all of the fill
+pub record IsPart (place : ℕ) (it : PiecedState) : Type 0 where
+  pub within : place + length it.plane.bytes < 2 ^ 64
+  pub last : get_or it.held (pieces_in (length it.plane.bytes) - 1) false ≡ true
+  pub fill : 46080 * (pieces_in (length it.plane.bytes) - 1) ≤ it.plane.layout.used
+
+-- it, with this stored number of undefined pixels
+abbrev pub part_of : ℕ → Option ℤ → PiecedState → PartState
+part_of place blank it = record { plane = blanked blank it.plane; place = place; blank = it.plane.layout.blank; passed = it.passed; held = it.held }
+
+-- where it lies
+abbrev pub part_at : PartState → Absence
+part_at it = record { place = it.place; known = true; blank = it.blank; passed = it.passed; held = it.held }
+
+-- its bytes are known: it is in memory, or they passed by
+abbrev pub IsKnown : Option Absence → Type 0
+IsKnown absent = IfSome absent (λ it. it.known ≡ true)
+
+-- its statistics are known: it is in memory, or they leave out what they are to leave out
+pub record Counts (plane : PlaneState) (it : Absence) : Type 0 where
+  pub known : it.known ≡ true
+  pub blank : plane.layout.blank ≡ it.blank
+
+abbrev pub IsCounted : PlaneState → Option Absence → Type 0
+IsCounted plane absent = IfSome absent (Counts plane)
+
+-- none of it is in memory
+abbrev pub IsAway : Option Absence → Type 0
+IsAway absent = IsSomeAnd absent (λ it. it.held ≡ [])
+
+-- the pixels of a rectangle are in memory: all of it is, or it is known, and each of its pieces is that has one of them
+pub record Holds (axes lo hi : List ℕ) (layout : Layout) (it : Absence) : Type 0 where
+  pub known : it.known ≡ true
+  pub some : 0 < length it.held
+  pub held : HoldsRectangle axes lo hi layout it.held
+
+abbrev pub HasRectangle : (axes lo hi : List ℕ) → PlaneState → Option Absence → Type 0
+HasRectangle axes lo hi plane absent = IfSome absent (Holds axes lo hi plane.layout)
+
+-- the bytes of a data unit in a file of these bytes: those that are known, or those that the file has at its place
+abbrev pub unit_at : List ℕ → List ℕ → Option Absence → List ℕ
+unit_at told unit None = unit
+unit_at told unit (Some it) = if it.known then unit else take (length unit) (drop it.place told)
+
+-- a file of these bytes has one at its place that is as long, and, where it is known, what passed by
+pub record Lies (told unit : List ℕ) (it : Absence) : Type 0 where
+  pub there : it.place + length unit ≤ length told
+  pub same : it.known ≡ true → take (length unit) (drop it.place told) ≡ it.passed
+
+-- where not all of it is in memory it lies in a file of these bytes
+abbrev pub LiesIn : List ℕ → PlaneState → Option Absence → Type 0
+LiesIn told plane absent = IfSome absent (Lies told plane.bytes)
