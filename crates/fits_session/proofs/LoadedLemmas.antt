@@ -14,6 +14,7 @@ use Rattle.fits_passing.specs.ExtensionName.{extension_name}
 use Rattle.fits_stream.specs.Agree.{IsOf}
 use Rattle.fits_stream.specs.Stored.{ReadLogState}
 use Rattle.fits_unit.specs.DataUnit.{unit_at, Absence, IsCounted, IsKnown}
+use Rattle.fits_unit.proofs.AgainLemmas.{seen_unit}
 use Rattle.fits_passing.specs.Hdu.{HduParts, hdu_bytes, IsHdu}
 use Rattle.fits_hdu.specs.State.{HduState, hdu_at, name_of, parts_of, IsDescribed, IsSeen}
 use Rattle.fits_hdu.specs.Work.{Loads, plane_work}
@@ -68,10 +69,6 @@ pub held_parts : (told : List ℕ) (one : HduState) → one.absent ≡ None → 
 held_parts told one held = ap (λ (absent : Option Absence). let u : HduParts = record { header = one.header.header; data_unit = unit_at told one.plane.bytes absent } in u) held
 
 -- so has one that is known
-pub seen_unit : (told bytes : List ℕ) (absent : Option Absence) → IsKnown absent → unit_at told bytes absent ≡ bytes
-seen_unit told bytes None known = refl
-seen_unit told bytes (Some it) known = ap (λ (b : Bool). if b then bytes else take (length bytes) (drop it.place told)) known
-
 pub seen_parts : (told : List ℕ) (one : HduState) → IsSeen one → parts_of (hdu_at told one) ≡ parts_of one
 seen_parts told one seen = ap (λ t. let u : HduParts = record { header = one.header.header; data_unit = t } in u) (seen_unit told one.plane.bytes one.absent seen)
 

@@ -16,6 +16,7 @@ use crate::reporting::{
 use crate::scaled::{has_pixel_line, tell_scaled};
 use crate::subject::Subject;
 use crate::task::Inputs;
+use crate::unfinished::{NOT_DONE, is_unfinished};
 use crate::words::oddity_of;
 use fits_cli::{
     CardChoice, End, Fault, Manner, Telling, run_ask, run_ask_stored, run_cards, run_telling,
@@ -28,6 +29,12 @@ use std::alloc::{AllocError, Global};
 use std::fs::File;
 use std::io::{BufWriter, Write};
 use std::{fs, io, rt};
+
+/// The end of a file of which an edit was broken off: standard error was told.
+const UNFINISHED: End = End {
+    status: NOT_DONE,
+    fault: None,
+};
 
 /// What is done with a file.
 #[derive(Clone, Copy)]
@@ -211,12 +218,15 @@ fn found<R: rt::Files<File = File> + Eprint + AllocGlobal>(
 }
 
 // The status is 1 where a file has no card of one of these choices.
-fn lacking<R: rt::Files<File = File> + AllocGlobal>(
+fn lacking<R: rt::Files<File = File> + Eprint + AllocGlobal>(
     rt: &R,
     choices: &[CardChoice],
     subject: Subject<'_>,
 ) -> End {
     for choice in choices {
+        if is_unfinished(rt, subject.name) {
+            return UNFINISHED;
+        }
         let Ok(file) = fs::open(rt, subject.name) else {
             return End::from(Fault::ReadFailed);
         };
@@ -240,6 +250,9 @@ fn one<R: rt::Files<File = File> + Eprint + AllocGlobal, W: Write>(
     subject: Subject<'_>,
     out: &mut W,
 ) -> End {
+    if is_unfinished(rt, subject.name) {
+        return UNFINISHED;
+    }
     let Ok(file) = fs::open(rt, subject.name) else {
         return End::from(Fault::ReadFailed);
     };
@@ -261,6 +274,9 @@ fn as_json<R: rt::Files<File = File> + Eprint + AllocGlobal, W: Write>(
     subject: Subject<'_>,
     out: &mut W,
 ) -> End {
+    if is_unfinished(rt, subject.name) {
+        return UNFINISHED;
+    }
     let Ok(file) = fs::open(rt, subject.name) else {
         return End::from(Fault::ReadFailed);
     };
@@ -306,6 +322,9 @@ fn ask_as_it_comes<R: rt::Files<File = File> + Input + Print + Eprint + AllocGlo
     let Ok(mut out) = BufWriter::new(rt.alloc(), io::writer(rt)) else {
         return reported(rt, Fault::Memory);
     };
+    if is_unfinished(rt, subject.name) {
+        return NOT_DONE;
+    }
     let Ok(file) = fs::open(rt, subject.name) else {
         return reported_of(rt, subject, INPUT, Fault::ReadFailed);
     };

@@ -14,17 +14,44 @@ pub struct SavedEnd {
     pub fault: Option<SaveFault>,
     /// How many names beside OUT were taken: the number of the new file's.
     pub met: u32,
+    /// The status, where standard error was told why already.
+    pub told: Option<u8>,
 }
 
 impl SavedEnd {
     /// The end of a run whose result isn't saved.
     pub fn refused(fault: SaveFault) -> SavedEnd
-        ensures { result ≡ record { done = Err WriteFailed; fault = Some fault; met = 0 } }
+        ensures { result ≡ record { done = Err WriteFailed; fault = Some fault; met = 0; told = None } }
     {
         SavedEnd {
             done: Err(Fault::WriteFailed),
             fault: Some(fault),
             met: 0,
+            told: None,
+        }
+    }
+
+    /// The end of a run that standard error was told of.
+    pub fn told(status: u8) -> SavedEnd
+        ensures { result ≡ record { done = Err WriteFailed; fault = None; met = 0; told = Some status } }
+    {
+        SavedEnd {
+            done: Err(Fault::WriteFailed),
+            fault: None,
+            met: 0,
+            told: Some(status),
+        }
+    }
+
+    /// The end of a run that came to this, and to no more.
+    pub fn of(done: Result<Edited, Fault>) -> SavedEnd
+        ensures { result ≡ record { done = done; fault = None; met = 0; told = None } }
+    {
+        SavedEnd {
+            done,
+            fault: None,
+            met: 0,
+            told: None,
         }
     }
 
@@ -37,6 +64,9 @@ impl SavedEnd {
 
     /// Whether no further file is edited: it isn't the file alone that is to blame.
     pub fn ends_all(&self) -> bool {
+        if self.told.is_some() {
+            return false;
+        }
         match self.fault {
             Some(SaveFault::Failed(_) | SaveFault::InPart(_)) => true,
             Some(_) => false,
@@ -46,13 +76,14 @@ impl SavedEnd {
 }
 
 impl From<Fault> for SavedEnd {
-    ghost from_gives = { λ why end. end ≡ record { done = Err why; fault = None; met = 0 } };
+    ghost from_gives = { λ why end. end ≡ record { done = Err why; fault = None; met = 0; told = None } };
 
     fn from(why: Fault) -> SavedEnd {
         SavedEnd {
             done: Err(why),
             fault: None,
             met: 0,
+            told: None,
         }
     }
 }
