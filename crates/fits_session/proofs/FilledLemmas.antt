@@ -163,6 +163,7 @@ long_there : (told bytes : List ℕ) (it : Absence) (known : Bool) → Lies told
 long_there told bytes it true lies = refl
 long_there told bytes it false lies = there_long told bytes it lies
 
+-- so is any data unit that lies there
 pub unit_long : (told bytes : List ℕ) (absent : Option Absence) → IfSome absent (Lies told bytes) → length (unit_at told bytes absent) ≡ length bytes
 unit_long told bytes None lies = refl
 unit_long told bytes (Some it) lies = long_there told bytes it it.known lies
