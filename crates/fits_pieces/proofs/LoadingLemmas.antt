@@ -48,6 +48,7 @@ left_of : (s t : Bool) → (s && t) ≡ true → s ≡ true
 left_of true t e = refl
 left_of false t e = e
 
+-- of two that hold the second does
 right_of : (s t : Bool) → (s && t) ≡ true → t ≡ true
 right_of true t e = e
 right_of false t e = absurd (cc)

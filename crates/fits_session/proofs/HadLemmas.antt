@@ -65,6 +65,7 @@ held_rect lo hi one held kind found = record {
   pixels = λ is. subst (HasRectangle one.header.shape.axes lo hi one.plane) (sym held) tt;
 }
 
+-- so has each, where all are in memory
 pub so_pixels : (lo hi : List ℕ) (h : ℕ) (hdus : List HduState) → All IsHeld hdus → IsSoOf (HasPixels lo hi) h hdus
 so_pixels lo hi h hdus held i one at there = held_rect lo hi one (so_held h hdus held i one at there)
 

@@ -119,6 +119,7 @@ unit_there : (xs own : List ℕ) (it : Absence) (known : Bool) → it.known ≡ 
 unit_there xs own it true is lies same = lies.same is ∙ same
 unit_there xs own it false is lies same = refl
 
+-- one that is what passed by lies in the file
 pub told_unit : (xs own : List ℕ) (it : Absence) → Lies xs own it → it.passed ≡ own → take (length own) (drop it.place xs) ≡ unit_at xs own (Some it)
 told_unit xs own it lies same = unit_there xs own it it.known refl lies same
 

@@ -262,6 +262,7 @@ some_begun_case old mid new (Some at) begun away is p whole =
       joins = λ d few. omega (arith, q.joins d (omega (arith, few, ap (λ n. n / 2880) begun.size)), begun.joins d few, pieces_few (length old.plane.bytes) d whole few);
     }
 
+-- a load that began with a unit away is one of it
 pub some_begun : (old mid new : UnitState) → BeginsPart old mid → IsAway old.absent → LoadsMore mid.plane mid.absent new.plane new.absent → length old.plane.bytes % 2880 ≡ 0 → LoadsSome old new
 some_begun old mid new begun away p whole = some_begun_case old mid new new.absent begun away refl (subst (λ (a : Option Absence). LoadsMore mid.plane a new.plane new.absent) begun.is p) whole
 
