@@ -2,7 +2,7 @@
 # All that has to hold, in twelve parts: each lemma is used and each refused body well made, each refusal of memory is passed on, the documents name what is
 # there, the tool that tries refused bodies does what it says, the proofs and tests of all crates, the refused bodies, refused memory, the library from C and Python, the
 # program over real files and over the tables of cases/, the package, the instructions of the jobs of bench/. What failed is said once more at the end, with the clock of each part; the last line sums their counts.
-# With ANEW all is proved and tried again, whatever an earlier run on this machine kept.
+# All is proved anew. With ANEW refused bodies are tried and the library is built anew too, whatever an earlier run on this machine kept.
 set -u
 cd "$(dirname "$0")/.."
 processors=$(nproc)
@@ -29,11 +29,11 @@ echo "processors $processors, RT_JOBS ${RT_JOBS:-not set}, $(grep MemAvailable /
 part lemmas python3 -B .ci/lemmas.py
 part memory python3 -B .ci/passed_on.py
 part definitions python3 -B .ci/definitions.py --check
-part proofs rt ci ${ANEW:+--anew} &
+part proofs rt ci &
 proofs=$!
 part tool nice -n 10 python3 -B .ci/edits_test.py &
 # What stood in out/ is set aside once a crate is proved: the libraries that come then are those of this run.
-until grep -qE ' proved$| is kept' "$room/proofs.log" 2>/dev/null || ! kill -0 $proofs 2>/dev/null; do sleep 1; done
+until grep -q ' proved$' "$room/proofs.log" 2>/dev/null || ! kill -0 $proofs 2>/dev/null; do sleep 1; done
 part edits nice -n 10 python3 -B .ci/edits.py ${ANEW:+--anew} --beside $proofs "$room/proofs.log" &
 edits=$!
 wait $proofs
