@@ -48,6 +48,12 @@ abbrev pub recovery_of : Option (List ℕ) → Recovery
 recovery_of None = Nothing
 recovery_of (Some bytes) = if is_open bytes then Finished else Removed
 
+-- what a fault leaves that comes before anything is changed: what stood there
+abbrev pub IsUntouched : RedoFault → Type 0 → Type 0
+IsUntouched (fault.Failed _) StandsStill = Unit {0}
+IsUntouched (fault.InPart _) StandsStill = Unit {0}
+IsUntouched other StandsStill = StandsStill
+
 -- the fault of an edit that is made in part
 abbrev pub IsPart : RedoFault → Type 0
 IsPart (fault.InPart _) = Unit {0}

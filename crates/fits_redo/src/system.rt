@@ -22,7 +22,6 @@ pub struct System<'a, R: Files<File = File>> {
     redo_name: String,
     /// The folder of both.
     folder: String,
-    /// What may not have reached the disk.
     waits: Waits,
     failed: bool,
 }
@@ -31,6 +30,7 @@ pub struct System<'a, R: Files<File = File>> {
 #[derive(Clone, Copy)]
 struct Waits {
     file: bool,
+    /// The redo file that was made, or one that another run left.
     redo: bool,
     names: bool,
 }
@@ -58,16 +58,19 @@ impl<'a, R: Files<File = File> + AllocGlobal> System<'a, R> {
         }
         let redo_name = redo_name(alloc, name.as_str())?;
         test_name(rt, redo_name.as_str())?;
+        // A folder that can't be waited for is met here, before anything is written.
+        let folder = folder_of(alloc, name.as_str())?;
+        fs::open(rt, folder.as_str())?.sync_all()?;
         Ok(System {
             rt,
             file,
             redo: None,
             redo_name,
-            folder: folder_of(alloc, name.as_str())?,
+            folder,
             waits: Waits {
                 file: true,
-                redo: false,
-                names: true,
+                redo: true,
+                names: false,
             },
             failed: false,
         })
@@ -79,15 +82,29 @@ impl<R: Files<File = File>> System<'_, R> {
     pub fn file(&self) -> &File {
         &self.file
     }
+
+    /// The name at which its redo file stands, if one does.
+    pub fn redo_name(&self) -> &str {
+        self.redo_name.as_str()
+    }
+
+    /// Whether it has no other name. By another one nobody would look for its redo file.
+    pub fn has_one_name(&self) -> bool {
+        matches!(self.file.metadata(), Ok(about) if about.nlink() == 1)
+    }
 }
 
-/// Whether an edit of the file at a path was broken off after it may have touched it.
+/// Whether an edit of the file at a path was broken off after it may have touched it. Where no file can
+/// be reached there, what stands beside the path itself tells. `Err` is that the redo file can't be
+/// read.
 pub fn is_broken_off<R: Files<File = File> + AllocGlobal>(rt: &R, path: &str) -> io::Result<bool> {
-    let name = real_name(rt, path)?;
-    let redo = match fs::open(rt, redo_name(rt.alloc(), name.as_str())?.as_str()) {
-        Ok(redo) => redo,
-        Err(error) if error.kind() == ErrorKind::NotFound => return Ok(false),
-        Err(error) => return Err(error),
+    let alloc = rt.alloc();
+    let redo_name = match real_name(rt, path) {
+        Ok(name) => redo_name(alloc, name.as_str())?,
+        Err(_) => redo_name(alloc, path)?,
+    };
+    let Some(redo) = open_redo(rt, redo_name.as_str())? else {
+        return Ok(false);
     };
     let mut front = [0; 25];
     match redo.read_exact_at(&mut front, 0) {
@@ -106,6 +123,27 @@ fn real_name<R: Files<File = File> + AllocGlobal>(rt: &R, path: &str) -> io::Res
 // The name of the redo file of a file.
 fn redo_name(alloc: Global, name: &str) -> Result<String, AllocError> {
     Ok(format!(in alloc; "{name}.fitsed-redo")?)
+}
+
+// The redo file under a name, if one stands there. It's a regular file that no other user reads or
+// writes, as a run makes it: so nobody else wrote it.
+fn open_redo<R: Files<File = File>>(rt: &R, name: &str) -> io::Result<Option<File>> {
+    let about = match fs::symlink_metadata(rt, name) {
+        Ok(about) => about,
+        Err(error) => {
+            return match error.kind() {
+                // Beside a path that leads nowhere, or one whose name leaves no room, none can stand.
+                ErrorKind::NotFound | ErrorKind::NotADirectory | ErrorKind::InvalidFilename => Ok(
+                    None,
+                ),
+                _ => Err(error),
+            };
+        }
+    };
+    if !about.is_file() || about.mode() & 0o077 != 0 {
+        return Err(io::Error::from(ErrorKind::InvalidData));
+    }
+    Ok(Some(fs::open(rt, name)?))
 }
 
 // Whether a file may stand under a name, one that does or not: the system refuses one that is too long.
@@ -153,11 +191,13 @@ impl<R: Files<File = File>> System<'_, R> {
         done
     }
 
-    fn read_all(&self, alloc: Global) -> io::Result<Vec<u8>> {
-        let mut redo = fs::open(self.rt, self.redo_name.as_str())?;
+    fn read_all(&self, alloc: Global) -> io::Result<Option<Vec<u8>>> {
+        let Some(mut redo) = open_redo(self.rt, self.redo_name.as_str())? else {
+            return Ok(None);
+        };
         let mut bytes = Vec::new(alloc);
         redo.read_to_end(&mut bytes)?;
-        Ok(bytes)
+        Ok(Some(bytes))
     }
 
     fn sync(&mut self) -> io::Result<()>
@@ -167,8 +207,8 @@ impl<R: Files<File = File>> System<'_, R> {
             self.file.sync_all()?;
             self.waits.file = false;
         }
-        if let (true, Some(redo)) = (self.waits.redo, &self.redo) {
-            redo.sync_all()?;
+        if self.waits.redo {
+            self.sync_redo()?;
             self.waits.redo = false;
         }
         if self.waits.names {
@@ -176,6 +216,18 @@ impl<R: Files<File = File>> System<'_, R> {
             self.waits.names = false;
         }
         Ok(())
+    }
+
+    // A redo file that another run left counts only once it is on the disk: that run may have been
+    // killed while it waited for that.
+    fn sync_redo(&self) -> io::Result<()> {
+        if let Some(redo) = &self.redo {
+            return redo.sync_all();
+        }
+        match open_redo(self.rt, self.redo_name.as_str())? {
+            Some(redo) => redo.sync_all(),
+            None => Ok(()),
+        }
     }
 
     fn make(&mut self, head: &[u8]) -> io::Result<()>
@@ -268,9 +320,8 @@ impl<R: Files<File = File>> Pair for System<'_, R> {
 
     fn read_redo(&self, alloc: Global) -> Result<Option<Vec<u8>>, ReadFault> {
         match self.read_all(alloc) {
-            Ok(bytes) => Ok(Some(bytes)),
+            Ok(found) => Ok(found),
             Err(error) => match error.kind() {
-                ErrorKind::NotFound => Ok(None),
                 ErrorKind::OutOfMemory => Err(ReadFault::Memory),
                 _ => Err(ReadFault::Failed(error)),
             },

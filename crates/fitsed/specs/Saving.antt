@@ -8,6 +8,8 @@ use Rattle.fits_cli.specs.declared.edited.Edited.{Edited}
 use Rattle.fits_cli.specs.declared.edited.Edited.TheVariants.{Done, KeptBack, Unsound}
 use Rattle.fits_cli.specs.declared.planned.Planned.{Planned}
 use Rattle.fits_redo.specs.declared.plan.Plan.{Plan}
+use Rattle.fitsed.specs.declared.saved_end.Told.{Told}
+use Rattle.fitsed.specs.declared.saved_end.Told.TheVariants.{Nothing, OfFile, OfAll}
 use Rattle.fits_tell.specs.declared.fault.Fault.{Fault}
 use Rattle.fits_tell.specs.declared.fault.Fault.TheVariants.{WriteFailed, Reread as RereadFault}
 use Rattle.fits_tell.specs.declared.reread.Reread.TheVariants as again
@@ -46,7 +48,8 @@ abbrev pub status_of_saving : Option SaveFault → Result Edited Fault → ℕ
 status_of_saving None done = (end_of done).status
 status_of_saving (Some fault) done = 3
 
--- the same, or what it was said to be where standard error was told why
-abbrev pub status_told : Option ℕ → Option SaveFault → Result Edited Fault → ℕ
-status_told None fault done = status_of_saving fault done
-status_told (Some status) fault done = status
+-- the same, or 3 where standard error was told already why the file isn't edited
+abbrev pub status_told : Told → Option SaveFault → Result Edited Fault → ℕ
+status_told Nothing fault done = status_of_saving fault done
+status_told OfFile fault done = 3
+status_told OfAll fault done = 3

@@ -18,7 +18,7 @@ use crate::reporting::{
     report_replaced, report_undone, reported, reported_oddity, reported_of, reported_save,
     reported_script,
 };
-use crate::saved_end::SavedEnd;
+use crate::saved_end::{SavedEnd, Told};
 use crate::scaled::{has_pixel_line, tell_scaled};
 use crate::subject::Subject;
 use crate::task::{Inputs, SavingTerms};
@@ -111,9 +111,13 @@ pub fn edit_in_place<
             named: files.named,
             detail,
         };
-        if let Some(undone) = finished_first(rt, subject) {
-            status = status.max(undone);
-            continue;
+        match finished_first(rt, subject) {
+            Told::Nothing => {}
+            Told::OfFile => {
+                status = NOT_DONE;
+                continue;
+            }
+            Told::OfAll => return NOT_DONE,
         }
         let at = FilePair { subject, to: path };
         tell_values(rt, subject, &text);
@@ -370,7 +374,7 @@ fn kept<P: Place + Drop>(
         done,
         fault: None,
         met: 0,
-        told: None,
+        told: Told::Nothing,
     };
     if !ended.is_saved() {
         let fault = saved.get_ref().fault();
@@ -395,8 +399,8 @@ fn status_of<R: Files<File = File> + Eprint + AllocGlobal>(
 ) -> u8
     ensures { result ≡ status_told ended.now.told ended.now.fault ended.now.done }
 {
-    if let Some(status) = ended.told {
-        return status;
+    if !matches!(ended.told, Told::Nothing) {
+        return NOT_DONE;
     }
     match ended.done {
         Ok(Edited::KeptBack(undone)) => report_undone(rt, at.to, undone),

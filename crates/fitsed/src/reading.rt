@@ -149,7 +149,7 @@ pub fn each<
             if ends_all(fault) {
                 return status;
             }
-        } else if detail.tells() && job.has_values() {
+        } else if end.status != NOT_DONE && detail.tells() && job.has_values() {
             tell_scaled(rt, subject);
         }
     }
@@ -223,10 +223,10 @@ fn lacking<R: rt::Files<File = File> + Eprint + AllocGlobal>(
     choices: &[CardChoice],
     subject: Subject<'_>,
 ) -> End {
+    if is_unfinished(rt, subject.name) {
+        return UNFINISHED;
+    }
     for choice in choices {
-        if is_unfinished(rt, subject.name) {
-            return UNFINISHED;
-        }
         let Ok(file) = fs::open(rt, subject.name) else {
             return End::from(Fault::ReadFailed);
         };

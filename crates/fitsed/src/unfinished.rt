@@ -1,6 +1,7 @@
 //! Edits in a file itself that were broken off.
 use crate::explaining::tell_cause;
 use crate::reporting::{named_fault, reported};
+use crate::saved_end::Told;
 use crate::subject::Subject;
 use fits_cli::{Fault, Reread};
 use fits_redo::{OpenFault, Recovery, RedoFault, System, is_broken_off, recover};
@@ -12,27 +13,36 @@ use std::rt::Files;
 pub const NOT_DONE: u8 = 3;
 
 /// Whether an edit of the file at a path was broken off, so that some of its blocks may be old ones and
-/// others new. Standard error is told then.
+/// others new, or that can't be seen. Standard error is told then.
 pub fn is_unfinished<R: Files<File = File> + Eprint + AllocGlobal>(rt: &R, path: &str) -> bool {
-    let is = matches!(is_broken_off(rt, path), Ok(true));
-    if is {
-        report_unfinished(rt, path);
+    match is_broken_off(rt, path) {
+        Ok(false) => false,
+        Ok(true) => {
+            report_unfinished(rt, path);
+            true
+        }
+        Err(error) => {
+            report_unseen(rt, path, error);
+            true
+        }
     }
-    is
 }
 
-/// Finishes an edit of a file that was broken off. Where it can't be finished standard error is told why,
-/// and this is the status.
+/// Finishes an edit of a file that was broken off. Where it can't be finished standard error is told why.
 pub fn finished_first<R: Files<File = File> + Eprint + AllocGlobal>(
     rt: &R,
     subject: Subject<'_>,
-) -> Option<u8> {
-    if !matches!(is_broken_off(rt, subject.name), Ok(true)) {
-        return None;
-    }
-    match System::open(rt, subject.name) {
-        Ok(mut held) => recovered(rt, subject, &mut held),
-        Err(why) => Some(reported_held(rt, subject, why)),
+) -> Told {
+    match is_broken_off(rt, subject.name) {
+        Ok(false) => Told::Nothing,
+        Ok(true) => match System::open(rt, subject.name) {
+            Ok(mut held) => recovered(rt, subject, &mut held),
+            Err(why) => reported_held(rt, subject, why),
+        },
+        Err(error) => {
+            report_unseen(rt, subject.name, error);
+            Told::OfFile
+        }
     }
 }
 
@@ -41,76 +51,102 @@ pub fn recovered<R: Files<File = File> + Eprint + AllocGlobal>(
     rt: &R,
     subject: Subject<'_>,
     held: &mut System<'_, R>,
-) -> Option<u8> {
+) -> Told {
     match recover(rt.alloc(), held) {
         Ok(Recovery::Finished) if subject.detail.tells() => {
             let _ = eprintln!(rt;
                 "fitsed: {}: an edit that was broken off is finished",
                 subject.name
             );
-            None
+            Told::Nothing
         }
-        Ok(_) => None,
+        Ok(_) => Told::Nothing,
         Err(RedoFault::Changed) => {
-            let path = subject.name;
             let _ = eprintln!(rt;
-                "fitsed: {path}: an edit was broken off, and the file was written since: {path}.fitsed-redo has it"
+                "fitsed: {}: an edit was broken off, and the file was written since: {} has it",
+                subject.name,
+                held.redo_name()
             );
-            Some(NOT_DONE)
+            Told::OfFile
         }
-        Err(fault) => Some(reported_redo(rt, subject, fault)),
+        Err(fault) => reported_redo(rt, subject, held.redo_name(), fault),
     }
 }
 
-/// Reports why a file isn't changed in its place, and gives the status.
+/// Reports why a file isn't changed in its place, whose redo file would have this name.
 pub fn reported_redo<R: Files<File = File> + Eprint + AllocGlobal>(
     rt: &R,
     subject: Subject<'_>,
+    redo_name: &str,
     fault: RedoFault,
-) -> u8 {
+) -> Told {
     let path = subject.name;
     match fault {
-        RedoFault::Memory => reported(rt, Fault::Memory),
-        RedoFault::Changed => reported_call(rt, subject, Fault::Reread(Reread::Changed), None),
-        RedoFault::Unread(error) => reported_call(rt, subject, Fault::ReadFailed, Some(error)),
-        RedoFault::Failed(error) => reported_call(rt, subject, Fault::WriteFailed, Some(error)),
+        RedoFault::Memory => {
+            let _status = reported(rt, Fault::Memory);
+            Told::OfAll
+        }
+        RedoFault::Changed => {
+            report_call(rt, subject, Fault::Reread(Reread::Changed), None);
+            Told::OfFile
+        }
+        RedoFault::Unread(error) => {
+            report_call(rt, subject, Fault::ReadFailed, Some(error));
+            Told::OfFile
+        }
+        RedoFault::Failed(error) => {
+            report_call(rt, subject, Fault::WriteFailed, Some(error));
+            Told::OfAll
+        }
         RedoFault::Foreign => {
-            let _ = eprintln!(rt; "fitsed: {path}: {path}.fitsed-redo is no file of fitsed");
-            NOT_DONE
+            let _ = eprintln!(rt; "fitsed: {path}: {redo_name} is no file of fitsed");
+            Told::OfFile
         }
         RedoFault::InPart(error) => {
             report_unfinished(rt, path);
             if subject.detail.tells() {
                 tell_cause(rt, path, error);
             }
-            NOT_DONE
+            Told::OfAll
         }
     }
 }
 
-/// Reports why a file can't be held, and gives the status.
-pub fn reported_held<R: Eprint + AllocGlobal>(rt: &R, subject: Subject<'_>, why: OpenFault) -> u8 {
+/// Reports why a file can't be held.
+pub fn reported_held<R: Eprint + AllocGlobal>(
+    rt: &R,
+    subject: Subject<'_>,
+    why: OpenFault,
+) -> Told {
     match why {
         OpenFault::Busy => {
             let _ = eprintln!(rt; "fitsed: {}: another run has it", subject.name);
-            NOT_DONE
+            Told::OfFile
         }
-        OpenFault::Failed(error) => reported_call(rt, subject, Fault::WriteFailed, Some(error)),
+        OpenFault::Failed(error) => {
+            report_call(rt, subject, Fault::WriteFailed, Some(error));
+            Told::OfAll
+        }
     }
 }
 
 // Reports a call that failed, and its cause, if more is told.
-fn reported_call<R: Eprint + AllocGlobal>(
+fn report_call<R: Eprint + AllocGlobal>(
     rt: &R,
     subject: Subject<'_>,
     fault: Fault,
     cause: Option<io::Error>,
-) -> u8 {
-    let status = named_fault(rt, subject.name, subject.named, fault);
+) {
+    let _status = named_fault(rt, subject.name, subject.named, fault);
     if let (Some(error), true) = (cause, subject.detail.tells()) {
         tell_cause(rt, subject.name, error);
     }
-    status
+}
+
+// Reports that a redo file stands beside a file and can't be read, and why.
+fn report_unseen<R: Eprint + AllocGlobal>(rt: &R, path: &str, error: io::Error) {
+    let _ = eprintln!(rt; "fitsed: {path}: the redo file beside it can't be read");
+    tell_cause(rt, path, error);
 }
 
 fn report_unfinished<R: Eprint>(rt: &R, path: &str) {
