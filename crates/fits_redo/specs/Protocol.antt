@@ -15,7 +15,7 @@ use Rattle.fits_redo.specs.declared.redo_fault.RedoFault.TheVariants as fault
 abbrev pub IsEither : List ℕ → List ℕ → Files → Type 0
 IsEither old new c = (recovered c ≡ old) ⊎ (recovered c ≡ new)
 
--- the same, and the file wasn't touched
+-- the file wasn't touched, and the next edit makes the old file of what stands there, or the new one
 pub record IsStaged (old new : List ℕ) (c : Files) : Type 0 where
   pub file : c.file ≡ old
   pub either : IsEither old new c
