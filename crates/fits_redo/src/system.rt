@@ -5,7 +5,7 @@ use crate::pair::Pair;
 use crate::read_fault::ReadFault;
 use crate::redo::is_open;
 use std::alloc::{AllocError, Global};
-use std::fs::{File, OpenOptions, TryLockError};
+use std::fs::{File, Metadata, OpenOptions, TryLockError};
 use std::io::{ErrorKind, Read, Write};
 use std::os::unix::fs::{FileExt, MetadataExt, OpenOptionsExt};
 use std::rt::Files;
@@ -53,7 +53,7 @@ impl<'a, R: Files<File = File> + AllocGlobal> System<'a, R> {
             return Err(OpenFault::Failed(io::Error::from(ErrorKind::Unsupported)));
         }
         // Another run may have given the path to another file meanwhile.
-        if !stands(rt, name.as_str(), &file)? {
+        if !is_of(&file, &fs::metadata(rt, name.as_str())?)? {
             return Err(OpenFault::Busy);
         }
         let redo_name = redo_name(alloc, name.as_str())?;
@@ -114,10 +114,14 @@ pub fn is_broken_off<R: Files<File = File> + AllocGlobal>(rt: &R, path: &str) ->
     }
 }
 
-// Where a path leads, behind any links.
+// The name of the file at a path: where a link leads, and else the path itself.
 fn real_name<R: Files<File = File> + AllocGlobal>(rt: &R, path: &str) -> io::Result<String> {
+    let alloc = rt.alloc();
+    if !fs::symlink_metadata(rt, path)?.is_symlink() {
+        return Ok(format!(in alloc; "{path}")?);
+    }
     let real = fs::canonicalize(rt, path)?;
-    Ok(format!(in rt.alloc(); "{}", real.as_str())?)
+    Ok(format!(in alloc; "{}", real.as_str())?)
 }
 
 // The name of the redo file of a file.
@@ -133,9 +137,9 @@ fn open_redo<R: Files<File = File>>(rt: &R, name: &str) -> io::Result<Option<Fil
         Err(error) => {
             return match error.kind() {
                 // Beside a path that leads nowhere, or one whose name leaves no room, none can stand.
-                ErrorKind::NotFound | ErrorKind::NotADirectory | ErrorKind::InvalidFilename => Ok(
-                    None,
-                ),
+                ErrorKind::NotFound | ErrorKind::NotADirectory | ErrorKind::InvalidFilename => {
+                    Ok(None)
+                }
                 _ => Err(error),
             };
         }
@@ -143,7 +147,11 @@ fn open_redo<R: Files<File = File>>(rt: &R, name: &str) -> io::Result<Option<Fil
     if !about.is_file() || about.mode() & 0o077 != 0 {
         return Err(io::Error::from(ErrorKind::InvalidData));
     }
-    Ok(Some(fs::open(rt, name)?))
+    let redo = fs::open(rt, name)?;
+    if !is_of(&redo, &about)? {
+        return Err(io::Error::from(ErrorKind::InvalidData));
+    }
+    Ok(Some(redo))
 }
 
 // Whether a file may stand under a name, one that does or not: the system refuses one that is too long.
@@ -154,19 +162,19 @@ fn test_name<R: Files<File = File>>(rt: &R, name: &str) -> io::Result<()> {
     }
 }
 
-// The folder of a file whose name begins at the root.
+// The folder of a file.
 fn folder_of(alloc: Global, name: &str) -> Result<String, AllocError> {
     let folder = match name.rfind('/') {
         Some(slash) => name.get(..slash).unwrap_or(""),
-        None => "",
+        None => ".",
     };
     Ok(format!(in alloc; "{folder}/")?)
 }
 
-// Whether this file stands under a name.
-fn stands<R: Files<File = File>>(rt: &R, name: &str, file: &File) -> io::Result<bool> {
-    let (held, there) = (file.metadata()?, fs::metadata(rt, name)?);
-    Ok(held.dev() == there.dev() && held.ino() == there.ino())
+// Whether this is said of a file that is open.
+fn is_of(file: &File, about: &Metadata) -> io::Result<bool> {
+    let held = file.metadata()?;
+    Ok(held.dev() == about.dev() && held.ino() == about.ino())
 }
 
 // The byte at which a block begins.

@@ -125,7 +125,7 @@ pub fn reported_held<R: Eprint + AllocGlobal>(
         }
         OpenFault::Failed(error) => {
             report_call(rt, subject, Fault::WriteFailed, Some(error));
-            Told::OfAll
+            Told::OfFile
         }
     }
 }
