@@ -82,10 +82,7 @@ pub fn reported_redo<R: Files<File = File> + Eprint + AllocGlobal>(
 ) -> Told {
     let path = subject.name;
     match fault {
-        RedoFault::Memory => {
-            let _status = reported(rt, Fault::Memory);
-            Told::OfAll
-        }
+        RedoFault::Memory => of_all(reported(rt, Fault::Memory)),
         RedoFault::Changed => {
             report_call(rt, subject, Fault::Reread(Reread::Changed), None);
             Told::OfFile
@@ -110,6 +107,11 @@ pub fn reported_redo<R: Files<File = File> + Eprint + AllocGlobal>(
             Told::OfAll
         }
     }
+}
+
+// What is told where a fault with this status ends the edits of all files.
+fn of_all(_status: u8) -> Told {
+    Told::OfAll
 }
 
 /// Reports why a file can't be held.
