@@ -302,6 +302,8 @@ def next_edit(program, path, result):
     files = contents(path)
     for options in (["-i"], ["-i", "-o"]):
         with program.room(files) as room:
+            if REDO in files:
+                (pathlib.Path(room) / REDO).chmod(0o600)
             with begun(program, room, ["edit", *options, "-e", "off", "in.fits"]) as ran:
                 came = ended(ran)
             after = contents(pathlib.Path(room))
