@@ -98,11 +98,7 @@ impl<R: Files<File = File>> System<'_, R> {
 /// be reached there, what stands beside the path itself tells. `Err` is that the redo file can't be
 /// read.
 pub fn is_broken_off<R: Files<File = File> + AllocGlobal>(rt: &R, path: &str) -> io::Result<bool> {
-    let alloc = rt.alloc();
-    let redo_name = match real_name(rt, path) {
-        Ok(name) => redo_name(alloc, name.as_str())?,
-        Err(_) => redo_name(alloc, path)?,
-    };
+    let redo_name = redo_name_at(rt, path)?;
     let Some(redo) = open_redo(rt, redo_name.as_str())? else {
         return Ok(false);
     };
@@ -117,16 +113,35 @@ pub fn is_broken_off<R: Files<File = File> + AllocGlobal>(rt: &R, path: &str) ->
 // The name of the file at a path: where a link leads, and else the path itself.
 fn real_name<R: Files<File = File> + AllocGlobal>(rt: &R, path: &str) -> io::Result<String> {
     let alloc = rt.alloc();
-    if !fs::symlink_metadata(rt, path)?.is_symlink() {
-        return Ok(format!(in alloc; "{path}")?);
+    if !is_link(rt, path) {
+        return Ok(String::from_str(alloc, path)?);
     }
     let real = fs::canonicalize(rt, path)?;
-    Ok(format!(in alloc; "{}", real.as_str())?)
+    Ok(String::from_str(alloc, real.as_str())?)
+}
+
+fn is_link<R: Files<File = File>>(rt: &R, path: &str) -> bool {
+    matches!(fs::symlink_metadata(rt, path), Ok(about) if about.is_symlink())
+}
+
+// The name of the redo file of what stands at a path, or where that can't be reached, of the path.
+fn redo_name_at<R: Files<File = File> + AllocGlobal>(rt: &R, path: &str) -> io::Result<String> {
+    let alloc = rt.alloc();
+    if is_link(rt, path) {
+        if let Ok(real) = fs::canonicalize(rt, path) {
+            return Ok(redo_name(alloc, real.as_str())?);
+        }
+    }
+    Ok(redo_name(alloc, path)?)
 }
 
 // The name of the redo file of a file.
 fn redo_name(alloc: Global, name: &str) -> Result<String, AllocError> {
-    Ok(format!(in alloc; "{name}.fitsed-redo")?)
+    let ending = ".fitsed-redo";
+    let mut redo_name = String::with_capacity(alloc, name.len().saturating_add(ending.len()))?;
+    redo_name.push_str(name)?;
+    redo_name.push_str(ending)?;
+    Ok(redo_name)
 }
 
 // The redo file under a name, if one stands there. It's a regular file that no other user reads or

@@ -3,26 +3,51 @@ use crate::explaining::tell_cause;
 use crate::reporting::{named_fault, reported};
 use crate::saved_end::Told;
 use crate::subject::Subject;
-use fits_cli::{Fault, Reread};
+use fits_cli::{End, Fault, Reread};
 use fits_redo::{OpenFault, Recovery, RedoFault, System, is_broken_off, recover};
 use std::fs::File;
 use std::io;
+use std::io::ErrorKind;
 use std::rt::Files;
 
 /// The status of a file that can't be read as it is, or that isn't written.
 pub const NOT_DONE: u8 = 3;
 
-/// Whether an edit of the file at a path was broken off, so that some of its blocks may be old ones and
-/// others new, or that can't be seen. Standard error is told then.
-pub fn is_unfinished<R: Files<File = File> + Eprint + AllocGlobal>(rt: &R, path: &str) -> bool {
+/// The end of a file that can't be read as it is: standard error was told why.
+const UNFINISHED: End = End {
+    status: NOT_DONE,
+    fault: None,
+};
+
+/// How a run ends over the file at a path of which an edit was broken off, so that some of its blocks
+/// may be old ones and others new, or where that can't be seen. Standard error is told then, but of
+/// memory that ran out.
+pub fn unfinished_end<R: Files<File = File> + Eprint + AllocGlobal>(
+    rt: &R,
+    path: &str,
+) -> Option<End> {
     match is_broken_off(rt, path) {
-        Ok(false) => false,
+        Ok(false) => None,
         Ok(true) => {
             report_unfinished(rt, path);
-            true
+            Some(UNFINISHED)
         }
+        Err(error) if error.kind() == ErrorKind::OutOfMemory => Some(End::from(Fault::Memory)),
         Err(error) => {
             report_unseen(rt, path, error);
+            Some(UNFINISHED)
+        }
+    }
+}
+
+/// Whether a run over the file ends so. Standard error was told of it all then.
+pub fn is_unfinished<R: Files<File = File> + Eprint + AllocGlobal>(rt: &R, path: &str) -> bool {
+    match unfinished_end(rt, path) {
+        None => false,
+        Some(end) => {
+            if let Some(fault) = end.fault {
+                let _status = reported(rt, fault);
+            }
             true
         }
     }
@@ -39,6 +64,7 @@ pub fn finished_first<R: Files<File = File> + Eprint + AllocGlobal>(
             Ok(mut held) => recovered(rt, subject, &mut held),
             Err(why) => reported_held(rt, subject, why),
         },
+        Err(error) if error.kind() == ErrorKind::OutOfMemory => of_all(reported(rt, Fault::Memory)),
         Err(error) => {
             report_unseen(rt, subject.name, error);
             Told::OfFile
