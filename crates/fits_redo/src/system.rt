@@ -151,10 +151,12 @@ fn open_redo<R: Files<File = File>>(rt: &R, name: &str) -> io::Result<Option<Fil
         Ok(about) => about,
         Err(error) => {
             return match error.kind() {
-                // Beside a path that leads nowhere, or one whose name leaves no room, none can stand.
-                ErrorKind::NotFound | ErrorKind::NotADirectory | ErrorKind::InvalidFilename => {
-                    Ok(None)
-                }
+                // None can stand beside a path that leads nowhere, or one whose name leaves no room; in a
+                // folder that can't be looked into no file is reached either.
+                ErrorKind::NotFound
+                | ErrorKind::NotADirectory
+                | ErrorKind::InvalidFilename
+                | ErrorKind::PermissionDenied => Ok(None),
                 _ => Err(error),
             };
         }
