@@ -14,7 +14,8 @@ GIVEN = r"\balloc\b|\bAllocError\b|\bAllocFailed\b|OutOfMemory|\.(push|extend_fr
 SOURCES = [path for path in sorted(pathlib.Path("crates").glob("*/src/**/*.rt")) if not path.parts[1].startswith("fits_tests")]
 
 # The functions that answer so themselves.
-ANSWERS = {name for path in SOURCES for name, _ in re.findall(r"fn (\w+)([^{;]*?)AllocError", path.read_text())}
+# (what they are given may be an array, `[u8; 2880]`)
+ANSWERS = {name for path in SOURCES for name, _ in re.findall(r"fn (\w+)((?:[^{;]|; \w+\])*?)AllocError", path.read_text())}
 
 
 def statement(lines, at):

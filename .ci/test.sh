@@ -2,7 +2,7 @@
 # All that has to hold, in twelve parts: each lemma is used and each refused body well made, each refusal of memory is passed on, the documents name what is
 # there, the tool that tries refused bodies does what it says, the proofs and tests of all crates, the refused bodies, refused memory, the library from C and Python, the
 # program over real files and over the tables of cases/, the package, the instructions of the jobs of bench/. What failed is said once more at the end, with the clock of each part; the last line sums their counts.
-# With ANEW all is proved and tried again, whatever an earlier run on this machine kept.
+# All is proved anew. With ANEW refused bodies are tried and the library is built anew too, whatever an earlier run on this machine kept.
 set -u
 cd "$(dirname "$0")/.."
 processors=$(nproc)
@@ -29,13 +29,19 @@ echo "processors $processors, RT_JOBS ${RT_JOBS:-not set}, $(grep MemAvailable /
 part lemmas python3 -B .ci/lemmas.py
 part memory python3 -B .ci/passed_on.py
 part definitions python3 -B .ci/definitions.py --check
-part proofs rt ci ${ANEW:+--anew} &
+part proofs rt ci &
 proofs=$!
 part tool nice -n 10 python3 -B .ci/edits_test.py &
 # What stood in out/ is set aside once a crate is proved: the libraries that come then are those of this run.
-until grep -qE ' proved$| is kept' "$room/proofs.log" 2>/dev/null || ! kill -0 $proofs 2>/dev/null; do sleep 1; done
+until grep -q ' proved$' "$room/proofs.log" 2>/dev/null || ! kill -0 $proofs 2>/dev/null; do sleep 1; done
 part edits nice -n 10 python3 -B .ci/edits.py ${ANEW:+--anew} --beside $proofs "$room/proofs.log" &
 edits=$!
+# The library is built once all that it stands on is proved, beside the proof of the program.
+{
+    until grep -qE '^rt: fits_c (proved|NOT PROVED)' "$room/proofs.log" || ! kill -0 $proofs 2>/dev/null; do sleep 1; done
+    part library python3 -B .ci/library.py ${ANEW:+--anew}
+} &
+library=$!
 wait $proofs
 part refused sh .ci/refuse.sh &
 refused=$!
@@ -43,14 +49,14 @@ part stored sh .ci/stored.sh &
 stored=$!
 # The rows of cases/ are run by the library too, and it has packages.
 {
-    part library python3 -B .ci/library.py ${ANEW:+--anew}
+    while kill -0 $library 2>/dev/null; do sleep 1; done
     part package python3 -B .ci/package.py &
     part cases python3 -B cases/run.py
     wait
 } &
 cases=$!
 part bench python3 -B bench/count &
-wait $! $refused $stored $cases $edits
+wait $! $refused $stored $library $cases $edits
 wait
 cat "$room/faults" "$room/clocks"
 awk '/^[0-9]+ passed, [0-9]+ failed/ { passed += $1; failed += $3; counted += 1 }

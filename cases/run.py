@@ -31,6 +31,7 @@ import mending
 import odd_places
 import one_file
 import openings
+import overwriting
 import pairs
 import peers
 import pieces
@@ -74,6 +75,7 @@ TABLES = [
     odd_places,
     saving,
     safe_saving,
+    overwriting,
     meanwhile,
     batches,
     spared,

@@ -18,7 +18,7 @@ _fitsed() {
     case $command in
         keys) flags='--hdu --name --recursive --files0-from --progress --verbose' ;;
         diff) flags='--script --verbose' ;;
-        edit) flags='--all --check --warnings --sums --tables --in-place --done --no-clobber --safe --backup --line --file --extended --with-filename --recursive --progress --verbose' ;;
+        edit) flags='--all --check --warnings --sums --tables --in-place --done --no-clobber --safe --overwrite --backup --line --file --extended --with-filename --recursive --progress --verbose' ;;
         ask) flags='--line --file --extended --tables --with-filename --json --recursive --files0-from --progress --verbose' ;;
         cards) flags='--hdu --name --files-without --null --with-filename --json --recursive --files0-from --progress --verbose' ;;
         list) flags='--long --with-filename --json --recursive --files0-from --progress --verbose' ;;

@@ -23,10 +23,12 @@ use Rattle.fits_cli.specs.Ends.{end_of, RunState, AreToldOf, FlushesOrFails, Gav
 use Rattle.fits_tell.specs.Faults.{fault_of_file}
 use Rattle.fits_cli.specs.Terms.{check_of}
 use Rattle.fits_cli.specs.declared.edited.Edited.{Edited}
+use Rattle.fits_cli.specs.declared.planned.Planned.{Planned}
 use Rattle.fits_tell.specs.declared.level.Level.TheVariants.{Quiet}
 use Rattle.fits_cli.specs.declared.limits.TheConstants.{SCRIPT_LIMIT}
 use Rattle.fits_cli.specs.Remark.{remarks, Remarks}
 use Rattle.fits_cli.specs.Output.{Output, answers, standing_after, output_unopened, output_of_lines, output_too_long, IsOutputOf}
+use Rattle.fits_cli.specs.Planned.{edited_of}
 use Rattle.fits_cli.specs.Reports.{reports_of, Reports}
 use Rattle.fits_cli.specs.Running.{Heard, heard, AnswersScript, AnswersTooLong, NeedsMemoryAt, ScriptLacksData, ScriptReadFails, ScriptWriteFails, ScriptStops, FlushesThen, FlushesAnswers, IsAnsweredRun}
 use Rattle.fits_cli.specs.Script.{script_lines}
@@ -419,6 +421,10 @@ RemarksBy-answered old new told told_after now before (Err why) run =
 -- or of one that ended before, by a fault that is passed on
 pub remarks_exit : (terms : Terms) (file file_after script script_after : SourceState) (told told_after : Option SinkState) (result : Result Edited Fault) (why : Fault) → IsErrAnd result (λ e. e ≡ why) → AreToldOf terms file file_after script script_after told told_after → RemarksBy terms file file_after script script_after told told_after result
 remarks_exit terms file file_after script script_after told told_after result why is made = let exit = err_from_is_err_and result is in rw exit.1 made
+
+-- also of one that plans
+pub over_remarks_exit : (terms : Terms) (file file_after script script_after : SourceState) (told told_after : Option SinkState) (result : Result Planned Fault) (why : Fault) → IsErrAnd result (λ e. e ≡ why) → AreToldOf terms file file_after script script_after told told_after → RemarksBy terms file file_after script script_after told told_after (edited_of result)
+over_remarks_exit terms file file_after script script_after told told_after result why is made = let exit = err_from_is_err_and result is in rw exit.1 made
 
 -- so it is by the end
 pub RemarksEndAs-end : (terms : Terms) (file file_after script script_after : SourceState) (told told_after : Option SinkState) (result : Result Edited Fault) → RemarksBy terms file file_after script script_after told told_after result → RemarksEndAs terms file file_after script script_after told told_after (end_of result)

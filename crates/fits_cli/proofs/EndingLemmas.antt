@@ -1,17 +1,20 @@
 -- How a run ends whose script was answered to its end.
-use Rattle.std.proofs.Common.{◌≡◌, ◌⊎◌, ℕ, ◌+◌, ◌<◌, ◌≤◌, ◌&&◌, Bool, List, take, refl, ap, sym, subst, ◌∙◌, inl, inr, arith, true, false, Result, Ok, Err, Option}
+use Rattle.std.proofs.Common.{◌≡◌, ◌⊎◌, ℕ, ◌+◌, ◌<◌, ◌≤◌, ◌&&◌, Bool, List, take, refl, ap, sym, subst, ◌∙◌, inl, inr, arith, true, false, Result, Ok, Err, Option, None, Some}
 use Rattle.std.specs.Prelude.{nat_lt}
 use Rattle.std.specs.Result.{IsErrAnd}
 use Rattle.std.proofs.lemmas.Result.{err_from_is_err_and}
 use Rattle.fits_stream.specs.Stream.{SourceState, SinkState, Prints, PrintsFront}
 use Rattle.fits_stream.proofs.StreamLemmas.{quiet_read, Prints-flushed}
 use Rattle.fits_passing.specs.File.{file_bytes, FileParts}
+use Rattle.fits_redo.specs.declared.plan.Plan.{Plan}
 use Rattle.fits_cli.specs.Answer.{Standing, at_first_line}
 use Rattle.fits_cli.specs.Ends.{end_of, EndsAs, EndsBy, FailsBy, IsDue, IsKeptBack, IsSaved, IsUnsound, NewErrorsFail, ReachesEnd, RunState, StopsBy, Succeeds}
 use Rattle.fits_cli.specs.Faults.{IsOnce, SaveFails}
+use Rattle.fits_cli.specs.Holding.{ComesDue}
 use Rattle.fits_cli.specs.Reports.{new_error_count, new_lines, new_warning_count, reports_of, HasMore, Reports}
 use Rattle.fits_cli.specs.Output.{answers, output_of_lines, Output, saved_bytes, standing_after, status_of}
 use Rattle.fits_cli.specs.Running.{heard, IsAnsweredRun}
+use Rattle.fits_cli.specs.Planned.{EndsByPlan, EndsOver, MakesBytes, PlansOrSaves}
 use Rattle.fits_cli.specs.Script.{script_lines}
 use Rattle.fits_cli.specs.Terms.{asking, check_of, holds_back, is_whole}
 use Rattle.fits_cli.specs.Ends.{run_by}
@@ -23,6 +26,7 @@ use Rattle.fits_tell.specs.declared.fault.Fault.TheVariants.{Memory, Reread as R
 use Rattle.fits_tell.specs.declared.level.Level.{Level}
 use Rattle.fits_tell.specs.declared.level.Level.TheVariants.{Quiet}
 use Rattle.fits_tell.specs.declared.reread.Reread.TheVariants as again
+use Rattle.fits_cli.specs.declared.planned.Planned.{Planned}
 use Rattle.fits_cli.specs.declared.saves.Saves.{Saves}
 use Rattle.fits_cli.specs.declared.saves.Saves.TheVariants.{Made, Nothing}
 use Rattle.fits_cli.proofs.EditingLemmas.{output_whole, script_told}
@@ -148,10 +152,6 @@ New-errors-fail old new last told told_after now before errors warnings file scr
 due_of : (saves : Saves) (output : Output) (before after : Reports) (whole : Bool) (check : Level) → saves ≡ Made whole check → holds_back saves output.undone ≡ false → (HasMore (check_of saves) before after → ⊥) → IsDue saves output before after
 due_of saves output before after whole check is done sound = rw is (rw is at done, rw is at sound)
 
--- what is due is saved once it is printed and flushed
-saved_of : (saves : Saves) (output : Output) (before after : Reports) (whole : Bool) (check : Level) (saved holds : SinkState) → saves ≡ Made whole check → IsDue saves output before after → Prints output.saved saved holds → holds.unflushed ≡ 0 → IsSaved saves output before after saved holds
-saved_of saves output before after whole check saved holds is due printed flushed = rw is (rw is at due, printed, flushed)
-
 -- nothing keeps the result from being saved
 is_due : (old new : RunState) (told told_after : Option SinkState) (now : Standing) (before : Reports) (whole : Bool) (check : Level) (errors warnings : ℕ) (run : IsAnsweredRun old new told told_after now before) → old.terms.saves ≡ Made whole check → holds_back old.terms.saves now.refused ≡ false
     → AreNew (check_of old.terms.saves) before old.terms.tables now.marked.file errors warnings → errors + warnings ≤ 0
@@ -161,51 +161,65 @@ is_due old new told told_after now before whole check errors warnings run is all
     let sound = none-more (check_of old.terms.saves) before (reports_of old.terms.tables run.parts) old.terms.tables now.marked.file errors warnings run.before_is are none in
     due_of old.terms.saves _ (reports_of old.terms.tables run.parts) (reports_of old.terms.tables now.marked.file) whole check is done sound
 
--- so it is saved
-pub Succeeds-saved : (old new : RunState) (saved holds : SinkState) (told told_after : Option SinkState) (now : Standing) (before : Reports) (whole : Bool) (check : Level) (errors warnings : ℕ) → IsAnsweredRun old new told told_after now before → old.terms.saves ≡ Made whole check → holds_back old.terms.saves now.refused ≡ false
-    → AreNew (check_of old.terms.saves) before old.terms.tables now.marked.file errors warnings → errors + warnings ≤ 0 → Prints (saved_bytes old.terms now) saved holds → holds.unflushed ≡ 0 → Succeeds old new saved holds (status_of now)
+-- so it is to be
+pub Comes-due : (old new : RunState) (told told_after : Option SinkState) (now : Standing) (before : Reports) (whole : Bool) (check : Level) (errors warnings : ℕ) → IsAnsweredRun old new told told_after now before → old.terms.saves ≡ Made whole check → holds_back old.terms.saves now.refused ≡ false
+    → AreNew (check_of old.terms.saves) before old.terms.tables now.marked.file errors warnings → errors + warnings ≤ 0 → ComesDue old new (saved_bytes old.terms now) (status_of now)
 unfolding reaches_end
-Succeeds-saved old new saved holds told told_after now before whole check errors warnings run is all are none printed flushed = record {
+Comes-due old new told told_after now before whole check errors warnings run is all are none = record {
   end = reaches_end old new new told told_after now before refl refl run;
+  due = is_due old new told told_after now before whole check errors warnings run is all are none;
+  bytes_are = ap (saved_bytes old.terms) run.script.answered.left;
   status_is = ap status_of run.script.answered.left;
-  result =
-      saved_of old.terms.saves _ (reports_of old.terms.tables run.parts) (reports_of old.terms.tables now.marked.file) whole check saved holds is (is_due old new told told_after now before whole check errors warnings run is all are none)
-      (subst (λ (t : List ℕ). Prints t saved holds) (ap (saved_bytes old.terms) run.script.answered.left) printed) flushed;
 }
+
+-- what is due is saved once it is printed and flushed
+due_saved : (saves : Saves) (output : Output) (before after : Reports) (saved holds : SinkState) → IsDue saves output before after → Prints output.saved saved holds → holds.unflushed ≡ 0 → IsSaved saves output before after saved holds
+due_saved Nothing output before after saved holds due printed flushed = absurd due
+due_saved (Made whole check) output before after saved holds due printed flushed = (due, printed, flushed)
+
+-- so the run ends
+pub Succeeds-due : (old new : RunState) (saved holds : SinkState) (bytes : List ℕ) (status : ℕ) → ComesDue old new bytes status → Prints bytes saved holds → holds.unflushed ≡ 0 → Succeeds old new saved holds status
+Succeeds-due old new saved holds bytes status it printed flushed = record {
+  end = it.end;
+  status_is = it.status_is;
+  result = due_saved old.terms.saves it.end.run.output it.end.before it.end.after saved holds it.due (subst (λ (t : List ℕ). Prints t saved holds) it.bytes_are printed) flushed;
+}
+
+-- as one does by a plan that makes it
+pub Ends-planned : (old new : RunState) (file bytes : List ℕ) (status : ℕ) (plan : Plan) → ComesDue old new bytes status → MakesBytes file bytes plan → EndsByPlan old new file (Done status) plan
+Ends-planned old new file bytes status plan it makes = record {
+  agrees = makes.agrees;
+  ends = λ was now printed flushed. Succeeds-due old new was now bytes status it (subst (λ (t : List ℕ). Prints t was now) makes.gives printed) flushed;
+}
+
+-- whether it is saved or planned
+pub Ends-over : (len : ℕ) (file : List ℕ) (old new : RunState) (saved holds : SinkState) (bytes : List ℕ) (status : ℕ) (found : Option Plan) → ComesDue old new bytes status → PlansOrSaves len file bytes saved holds found → EndsOver len file old new saved holds (Ok (record { edited = Done status; plan = found }))
+Ends-over len file old new saved holds bytes status None it saves = Succeeds-due old new saved holds bytes status it saves.0 saves.1
+Ends-over len file old new saved holds bytes status (Some plan) it plans = (plans.0, λ size. Ends-planned old new file bytes status plan it (plans.1 size))
 
 -- data are read again where the file is stored alone
 again_stored : (stored : Bool) (fault : Fault) → fault ≡ RereadFault again.Failed → (stored ≡ true) ⊎ IsOnce fault → stored ≡ true
 again_stored stored fault is (inl there) = there
 again_stored stored fault is (inr once) = absurd (subst IsOnce is once)
 
--- or it can't be
-pub Saving-fails : (old new : RunState) (saved holds : SinkState) (told told_after : Option SinkState) (now : Standing) (before : Reports) (whole : Bool) (check : Level) (errors warnings : ℕ) (fault : Fault) → IsAnsweredRun old new told told_after now before → old.terms.saves ≡ Made whole check → holds_back old.terms.saves now.refused ≡ false
-    → AreNew (check_of old.terms.saves) before old.terms.tables now.marked.file errors warnings → errors + warnings ≤ 0 → (old.stored ≡ true) ⊎ IsOnce fault → SaveFails (saved_bytes old.terms now) saved holds fault → FailsBy old new saved holds fault
-unfolding reaches_end
-Saving-fails old new saved holds told told_after now before whole check errors warnings fault run is all are none re (inl fails) =
-    inr (inl (
-      fails.0,
-      record {
-        end = reaches_end old new new told told_after now before refl refl run;
-        due = is_due old new told told_after now before whole check errors warnings run is all are none;
-        front = subst (λ (t : List ℕ). PrintsFront t saved holds) (ap (saved_bytes old.terms) run.script.answered.left) fails.1;
-      },
-    ))
-Saving-fails old new saved holds told told_after now before whole check errors warnings fault run is all are none re (inr fails) =
+-- what is due can't be saved
+pub Fails-due : (old new : RunState) (saved holds : SinkState) (bytes : List ℕ) (status : ℕ) (fault : Fault) → ComesDue old new bytes status → (old.stored ≡ true) ⊎ IsOnce fault → SaveFails bytes saved holds fault → FailsBy old new saved holds fault
+Fails-due old new saved holds bytes status fault it re (inl fails) =
+    inr (inl (fails.0, record { end = it.end; due = it.due; front = subst (λ (t : List ℕ). PrintsFront t saved holds) it.bytes_are fails.1 }))
+Fails-due old new saved holds bytes status fault it re (inr fails) =
     inr (inr (
       again_stored old.stored fault fails.0 re,
       fails.0,
-      record {
-        end = reaches_end old new new told told_after now before refl refl run;
-        due = is_due old new told told_after now before whole check errors warnings run is all are none;
-        count = fails.1.0;
-        front = subst (λ (t : List ℕ). Prints (take fails.1.0 t) saved holds) (ap (saved_bytes old.terms) run.script.answered.left) fails.1.1;
-      },
+      record { end = it.end; due = it.due; count = fails.1.0; front = subst (λ (t : List ℕ). Prints (take fails.1.0 t) saved holds) it.bytes_are fails.1.1 },
     ))
 
 -- a fault that is passed on ends a run
 pub ends_exit : (old new : RunState) (saved holds : SinkState) (result : Result Edited Fault) (why : Fault) → IsErrAnd result (λ e. e ≡ why) → FailsBy old new saved holds why → EndsBy old new saved holds result
 ends_exit old new saved holds result why is fails = let exit = err_from_is_err_and result is in rw (exit.1, exit.2) fails
+
+-- or one that plans
+pub over_exit : (len : ℕ) (file : List ℕ) (old new : RunState) (saved holds : SinkState) (result : Result Planned Fault) (why : Fault) → IsErrAnd result (λ e. e ≡ why) → FailsBy old new saved holds why → EndsOver len file old new saved holds result
+over_exit len file old new saved holds result why is fails = let exit = err_from_is_err_and result is in rw (exit.1, exit.2) fails
 
 -- how a run ends whose result nothing keeps back
 pub EndsAs-free : (old new : RunState) (saved holds : SinkState) (result : Result Edited Fault) → is_whole old.terms.saves ≡ false → check_of old.terms.saves ≡ Quiet → EndsBy old new saved holds result → EndsAs old new saved holds (end_of result)

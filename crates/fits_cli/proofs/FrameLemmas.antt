@@ -1,5 +1,5 @@
 -- What a run leaves, step by step, whatever the reads of its file gave.
-use Rattle.std.proofs.Common.{◌≡◌, ℕ, Bool, List, length, [], ◌++◌, refl, sym, ap, subst, ◌∙◌, inl, inr, Result, Ok, Err}
+use Rattle.std.proofs.Common.{◌≡◌, ℕ, List, [], ◌++◌, refl, sym, ap, subst, ◌∙◌, inl, inr, Result, Ok, Err, Option, None, Some}
 use Rattle.std.specs.Result.{IfErr, IfOk, IsErrAnd, OnOk}
 use Rattle.std.proofs.lemmas.Result.{err_from_is_err_and}
 use Rattle.fits_unit.specs.Again.{CopyWrites, PrintsAs}
@@ -16,15 +16,17 @@ use Rattle.fits_passing.specs.declared.read_file_fault.ReadFileFault.TheVariants
 use Rattle.fits_cli.specs.Answer.{Standing}
 use Rattle.fits_tell.specs.Faults.{fault_of_copy, fault_of_file, FlushFails, PrintFails}
 use Rattle.fits_cli.specs.Ends.{end_of}
-use Rattle.fits_cli.specs.Frame.{AnswersLeave, AsksLeave, EndLeaves, HasTotalBy, IsUnanswered, LeavesAs, LeavesFault, LinesLeave, PrintsPart, PrintsSome, ResultLeaves, SavesLike, SavingLeaves, ScriptAnswers, ScriptLeaves}
+use Rattle.fits_cli.specs.Frame.{AnswersLeave, AsksLeave, EndLeaves, IsUnanswered, LeavesAs, LeavesFault, LinesLeave, PrintsPart, PrintsSome, ResultLeaves, SavingLeaves, ScriptAnswers, ScriptLeaves}
 use Rattle.fits_cli.specs.Output.{saved_bytes}
+use Rattle.fits_cli.specs.Planned.{LeavesOver, OverLeaves}
 use Rattle.fits_cli.specs.Running.{FlushesAnswers}
 use Rattle.fits_cli.specs.declared.edited.Edited.{Edited}
+use Rattle.fits_cli.specs.declared.planned.Planned.{Planned}
+use Rattle.fits_redo.specs.declared.plan.Plan.{Plan}
 use Rattle.fits_tell.specs.declared.fault.Fault.{Fault}
 use Rattle.fits_tell.specs.declared.fault.Fault.TheVariants.{Refused, ScriptTooLong, Memory, ReadFailed, WriteFailed, Reread as RereadFault}
 use Rattle.fits_tell.specs.declared.level.Level.{Level}
 use Rattle.fits_cli.specs.declared.saves.Saves.{Saves}
-use Rattle.fits_cli.specs.declared.saves.Saves.TheVariants.{Made}
 use Rattle.fits_cli.specs.declared.terms.Terms.{Terms}
 use Rattle.fits_cli.specs.Terms.{asking}
 use Rattle.fits_cli.proofs.EditingLemmas.{no_fault, same_fault}
@@ -146,19 +148,6 @@ saving_unflushed Is len a b c fault p failed = rw failed.0 (record { text = p.li
 pub like_flushed : (Is : List ℕ → Type 0) (len : ℕ) (a b c : SinkState) → PrintsAs Is len a b → Flushes b c → PrintsAs Is len a c
 like_flushed Is len a b c p flush = record { like = p.like; size = p.size; is = p.is; written = Prints-flushed a b c p.like p.written flush }
 
--- a result that isn't saved whole
-pub result_saving : (whole : Bool) (check : Level) (out saved holds : SinkState) (fault : Fault) → SavingLeaves saved holds fault → ResultLeaves (Made whole check) out out saved holds fault
-result_saving whole check out saved holds (Refused why) p = absurd p
-result_saving whole check out saved holds ScriptTooLong p = absurd p
-result_saving whole check out saved holds Memory p = absurd p
-result_saving whole check out saved holds ReadFailed p = absurd p
-result_saving whole check out saved holds WriteFailed p = inr (refl, p)
-result_saving whole check out saved holds (RereadFault why) p = (refl, p)
-
--- the lines of what is new aren't written
-pub result_part : (saves : Saves) (text : List ℕ) (out out' saved : SinkState) (fault : Fault) → PrintFails text out out' fault → ResultLeaves saves out out' saved saved fault
-result_part saves text out out' saved fault failed = rw failed.0 (inl (record { text = text; front = failed.1 }, refl))
-
 -- a run that ends after its answers
 leaves_result : (saves : Saves) (script script' : SourceState) (out mid out' saved holds : SinkState) (fault : Fault) → ScriptAnswers script script' out mid → mid.unflushed ≡ 0 → ResultLeaves saves mid out' saved holds fault → LeavesFault saves script script' out out' saved holds fault
 leaves_result saves script script' out mid out' saved holds (Refused why) answers flushed p = absurd p
@@ -171,11 +160,7 @@ leaves_result saves script script' out mid out' saved holds WriteFailed answers 
 leaves_result saves script script' out mid out' saved holds (RereadFault why) answers flushed p =
     (subst (λ (s : SinkState). ScriptAnswers script script' out s) (sym p.0) answers, ap (λ (s : SinkState). s.unflushed) p.0 ∙ flushed, p.1)
 
--- a result that was wanted is saved
-pub saves_made : (look : Look) (saves : Saves) (whole : Bool) (check : Level) (bytes : List ℕ) (saved holds : SinkState) → saves ≡ Made whole check → PrintsAs (HasTotalBy look bytes) (length bytes) saved holds × (holds.unflushed ≡ 0) → SavesLike look saves bytes saved holds
-saves_made look saves whole check bytes saved holds is p = rw is p
-
--- or comes to its end
+-- a run that comes to its end
 pub leaves_answered : (terms : Terms) (script script' : SourceState) (out mid out' saved holds : SinkState) (now : Standing) (result : Result Edited Fault) → ScriptAnswers script script' out mid × (mid.unflushed ≡ 0)
     → OnOk result (PrintsSome mid out') → OnOk result (mid.unflushed ≡ 0 → out'.unflushed ≡ 0) → IfOk result (EndLeaves (look_of terms) terms.saves (saved_bytes terms now) saved holds) → IfErr result (ResultLeaves terms.saves mid out' saved holds)
     → LeavesAs terms script script' out out' saved holds result
@@ -186,6 +171,17 @@ leaves_answered terms script script' out mid out' saved holds now (Ok it) answer
   result = ends;
 }
 leaves_answered terms script script' out mid out' saved holds now (Err fault) answers said flushed ends stops = leaves_result terms.saves script script' out mid out' saved holds fault answers.0 answers.1 stops
+
+-- or by a plan
+pub over_answered : (terms : Terms) (script script' : SourceState) (out mid out' saved holds : SinkState) (now : Standing) (result : Result Planned Fault) → ScriptAnswers script script' out mid × (mid.unflushed ≡ 0)
+    → OnOk result (PrintsSome mid out') → OnOk result (mid.unflushed ≡ 0 → out'.unflushed ≡ 0) → IfOk result (OverLeaves (look_of terms) terms.saves (saved_bytes terms now) saved holds) → IfErr result (ResultLeaves terms.saves mid out' saved holds)
+    → LeavesOver terms script script' out out' saved holds result
+over_answered terms script script' out mid out' saved holds now (Ok it) answers said flushed ends stops = ended it.edited it.plan ends
+  where
+    ended : (edited : Edited) (plan : Option Plan) → OverLeaves (look_of terms) terms.saves (saved_bytes terms now) saved holds (record { edited = edited; plan = plan }) → LeavesOver terms script script' out out' saved holds (Ok (record { edited = edited; plan = plan }))
+    ended edited None p = record { answers = record { quiet = answers.0.quiet; said = some_more out mid out' answers.0.said said }; flushed = flushed answers.1; now = now; result = p }
+    ended edited (Some plan) p = record { answers = record { quiet = answers.0.quiet; said = some_more out mid out' answers.0.said said }; flushed = flushed answers.1; done = p.0; saved_is = p.1 }
+over_answered terms script script' out mid out' saved holds now (Err fault) answers said flushed ends stops = leaves_result terms.saves script script' out mid out' saved holds fault answers.0 answers.1 stops
 
 -- a run that ends before its script does
 pub leaves_stopped : (saves : Saves) (script script' : SourceState) (out out' saved : SinkState) (fault : Fault) → AnswersLeave script script' out out' fault → LeavesFault saves script script' out out' saved saved fault
@@ -199,6 +195,10 @@ leaves_stopped saves script script' out out' saved (RereadFault why) p = (p.0, p
 -- the fault is passed on
 pub leaves_exit : (terms : Terms) (script script' : SourceState) (out out' saved holds : SinkState) (result : Result Edited Fault) (why : Fault) → IsErrAnd result (λ e. e ≡ why) → LeavesFault terms.saves script script' out out' saved holds why → LeavesAs terms script script' out out' saved holds result
 leaves_exit terms script script' out out' saved holds result why is p = let exit = err_from_is_err_and result is in rw (exit.1, exit.2) p
+
+-- also where it plans
+pub over_stopped : (terms : Terms) (script script' : SourceState) (out out' saved holds : SinkState) (result : Result Planned Fault) (why : Fault) → IsErrAnd result (λ e. e ≡ why) → LeavesFault terms.saves script script' out out' saved holds why → LeavesOver terms script script' out out' saved holds result
+over_stopped terms script script' out out' saved holds result why is p = let exit = err_from_is_err_and result is in rw (exit.1, exit.2) p
 
 -- a file that doesn't open
 pub leaves_unread : (saves : Saves) (script : SourceState) (out saved : SinkState) (why : ReadFileFault) → LeavesFault saves script script out out saved saved (fault_of_file why)

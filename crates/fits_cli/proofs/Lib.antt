@@ -7,6 +7,7 @@ pub mod ExitLemmas
 pub mod FirstLemmas
 pub mod FrameLemmas
 pub mod GuardLemmas
+pub mod HoldingLemmas
 pub mod LinesLemmas
 pub mod NewErrorLemmas
 pub mod NewTableLemmas
@@ -14,6 +15,7 @@ pub mod OverLemmas
 pub mod PixelAnswerLemmas
 pub mod PlacesLemmas
 pub mod PlainsLemmas
+pub mod PlannedLemmas
 pub mod ReadingLemmas
 pub mod RefusalLemmas
 pub mod RemarkLemmas

@@ -78,7 +78,7 @@ save_fails bytes old new Changed p = absurd p
 save_fails bytes old new Write p = inl (refl, p)
 
 -- what isn't spared is the file
-saved_whole : (terms : Terms) (standing : Standing) → (terms.spare && not standing.edited) ≡ false → saved_bytes terms standing ≡ file_bytes standing.marked.file
+pub saved_whole : (terms : Terms) (standing : Standing) → (terms.spare && not standing.edited) ≡ false → saved_bytes terms standing ≡ file_bytes standing.marked.file
 saved_whole terms standing is = rw is refl
 
 -- so it is saved

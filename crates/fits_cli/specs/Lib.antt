@@ -2,9 +2,11 @@ pub mod Answer
 pub mod Ends
 pub mod Faults
 pub mod Frame
+pub mod Holding
 pub mod NewErrors
 pub mod NewTables
 pub mod Output
+pub mod Planned
 pub mod Remark
 pub mod Reply
 pub mod Reports

@@ -17,15 +17,15 @@ ghost use Rattle.fits_cli.specs.Reports.{read_reports};
 ghost use Rattle.fits_cli.specs.Running.{guarded_by, standing_at, standing_over, FlushesAnswers, IsAnsweredRun, IsToldBy, OverAnswered, OverFirst};
 
 use crate::edited::{Edited, end_of};
+use crate::holding::held_back;
 use crate::remarking::Silence;
 use crate::reports::Reports;
 use crate::runner::Runner;
-use crate::saves::Saves;
 use crate::script::answer_script;
 use crate::terms::{PLAIN, Terms};
 use fits_session::{Holder, Session};
 use fits_stream::{ReadLog, Sink, Source, Stored};
-use fits_tell::{End, Fault, flush, print_at_once};
+use fits_tell::{End, Fault, flush};
 use std::alloc::Global;
 
 /// Reads a file and opens it, answers a script, and saves what the script made of the file.
@@ -188,9 +188,9 @@ fn run<H: Holder + Drop, S: Source, P: Sink, O: Sink, E: Sink>(
     save_result(alloc, terms, runner, &before, saved, out)
 }
 
-// Answers a script over a file, and flushes the answers. Before the first line it asks for the report
-// of the file, where that is wanted, and answers it.
-fn answered<H: Holder + Drop, S: Source, O: Sink, E: Sink>(
+/// Answers a script over a file, and flushes the answers. Before the first line it asks for the report
+/// of the file, where that is wanted, and answers it.
+pub(crate) fn answered<H: Holder + Drop, S: Source, O: Sink, E: Sink>(
     alloc: Global,
     terms: Terms,
     runner: &mut Runner<H>,
@@ -277,20 +277,9 @@ fn save_result<H: Holder + Drop, P: Sink, O: Sink>(
         (P.state saved.old) (P.state saved.new)) }
     ensures follows { Follows runner.old.log runner.new.log }
 {
-    match terms.saves {
-        Saves::Nothing => Ok(Edited::Done(runner.status())),
-        Saves::Made { check, .. } => {
-            if runner.is_held_back(terms.saves) {
-                return Ok(Edited::KeptBack(runner.refused()));
-            }
-            let found = runner.errors_since(alloc, check, terms.tables, before)?;
-            if found.are_some() {
-                print_at_once(out, &found.text)?;
-                return Ok(Edited::Unsound {
-                    errors: found.errors,
-                    warnings: found.warnings,
-                });
-            }
+    match held_back(alloc, terms, runner, before, out)? {
+        Some(edited) => Ok(edited),
+        None => {
             runner.save(terms, saved)?;
             Ok(Edited::Done(runner.status()))
         }

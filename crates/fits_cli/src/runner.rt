@@ -17,10 +17,12 @@ use crate::table_problems::table_problems;
 use crate::terms::Terms;
 use fits_extended::{Stands, Unmet, plain_line, queries_of_each};
 use fits_passing::Look;
+use fits_redo::Plan;
 use fits_script::{LineReading, read_line};
-use fits_session::{Holder, Session};
-use fits_stream::{ReadLog, Sink};
-use fits_tell::{Fault, Level, flush};
+use fits_session::{Holder, InFile, Session};
+use fits_stream::{ReadLog, Sink, Stored};
+use fits_tell::{Fault, Level, Reread, flush};
+use fits_unit::LoadFault;
 use std::alloc::{AllocError, Global};
 use std::marker::Model;
 
@@ -429,6 +431,76 @@ impl<H: Holder + Drop> Runner<H> {
         ensures { result ≡ (terms.spare && not self.now.edited) }
     {
         terms.spare && !self.edited
+    }
+}
+
+impl<'f, F: Stored> Runner<InFile<'f, F>> {
+    ghost use Rattle.std.specs.Prelude.{◌≡◌, ℕ, List, length, IfErr, IfOk, IfSome, OnOk};
+    ghost use Rattle.fits_stream.specs.Agree.{IsOf};
+    ghost use Rattle.fits_unit.specs.Again.{Follows};
+    ghost use Rattle.fits_cli.specs.Faults.{FaultCounts, SaveFails};
+    ghost use Rattle.fits_cli.specs.Frame.{SavingLeaves};
+    ghost use Rattle.fits_cli.specs.Output.{saved_bytes};
+    ghost use Rattle.fits_cli.specs.Planned.{MakesBytes, PlansLike, PlansOrSaves};
+    ghost use Rattle.fits_cli.specs.Running.{guarded_by, standing_at, standing_over};
+    ghost use Rattle.fits_tell.specs.declared.fault.Fault.TheVariants.{Reread as RereadFault};
+    ghost use Rattle.fits_tell.specs.declared.reread.Reread.TheVariants as again;
+
+    /// The blocks that saving on these terms changes in the file itself, which has so many bytes. Where
+    /// there is no plan of them it's saved.
+    pub(crate) fn plan_or_save<P: Sink>(
+        &mut self,
+        terms: Terms,
+        len: u64,
+        saved: &mut P,
+    ) -> Result<Option<Plan>, Fault>
+        ensures ok { (told : List ℕ) → IsOf told self.new.log → IfOk result (PlansOrSaves len told
+            (saved_bytes terms (standing_at told self.old)) (P.state saved.old) (P.state saved.new)) }
+        ensures err { (told : List ℕ) → IsOf told self.new.log
+            → IfErr result (SaveFails (saved_bytes terms (standing_at told self.old))
+            (P.state saved.old) (P.state saved.new)) }
+        ensures quiet { OnOk result (self.new.log.failures ≡ self.old.log.failures) }
+        ensures counted { IfErr result (FaultCounts self.old.log.failures self.new.log.failures) }
+        ensures like { IfOk result (PlansLike self.old.look
+            (saved_bytes terms (standing_over self.old (guarded_by self.old self.old.session)))
+            (P.state saved.old) (P.state saved.new)) }
+        ensures leaves { IfErr result (SavingLeaves (P.state saved.old) (P.state saved.new)) }
+        ensures standing { (told : List ℕ) → standing_at told self.new ≡ standing_at told self.old }
+        ensures look { self.new.look ≡ self.old.look }
+        ensures follows { Follows self.old.log self.new.log }
+    {
+        match self.plan(terms, len)? {
+            Some(plan) => Ok(Some(plan)),
+            None => {
+                self.save(terms, saved)?;
+                Ok(None)
+            }
+        }
+    }
+
+    // The blocks that saving on these terms changes in the file itself, which has so many bytes. There
+    // is no plan where nothing is to be saved, where it can't be saved in its place, or isn't what was
+    // opened, nor where memory is refused for one.
+    fn plan(&mut self, terms: Terms, len: u64) -> Result<Option<Plan>, Fault>
+        ensures ok { (told : List ℕ) → IsOf told self.new.log → length told ≡ len
+            → IfOk result (λ found. IfSome found (MakesBytes told (saved_bytes terms (standing_at told self.old)))) }
+        ensures err { IfErr result (λ fault. fault ≡ RereadFault again.Failed) }
+        ensures quiet { OnOk result (self.new.log.failures ≡ self.old.log.failures) }
+        ensures counted { IfErr result (FaultCounts self.old.log.failures self.new.log.failures) }
+        ensures standing { (told : List ℕ) → standing_at told self.new ≡ standing_at told self.old }
+        ensures over { standing_over self.new (guarded_by self.new self.new.session)
+            ≡ standing_over self.old (guarded_by self.old self.old.session) }
+        ensures look { self.new.look ≡ self.old.look }
+        ensures follows { Follows self.old.log self.new.log }
+    {
+        if self.is_spared(terms) {
+            return Ok(None);
+        }
+        match self.session.plan(len, &mut self.log) {
+            Ok(found) => Ok(found),
+            Err(LoadFault::Failed) => Err(Fault::Reread(Reread::Failed)),
+            Err(_) => Ok(None),
+        }
     }
 }
 

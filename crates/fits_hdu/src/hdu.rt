@@ -432,6 +432,23 @@ impl Hdu {
         follow_blank(&mut self.unit, &mut self.header);
     }
 
+    /// Writes the header alone. Each card's read is counted.
+    ///
+    /// Where a call fails a prefix was written.
+    pub fn emit_header<W: Sink>(&mut self, sink: &mut W) -> io::Result<()>
+        ensures ok { OnOk result (Prints (header_bytes self.old.header.header)
+            (W.state sink.old) (W.state sink.new)) }
+        ensures err { OnErr result (PrintsFront (header_bytes self.old.header.header)
+            (W.state sink.old) (W.state sink.new)) }
+
+        // The HDU stays, and each card is read once at most.
+        ensures work { ReadsUpTo self.old self.new (length self.old.header.header.cards) }
+        ensures all_read { OnOk result (self.new.header.reads
+            ≡ self.old.header.reads + length self.old.header.header.cards) }
+    {
+        self.header.emit(sink)
+    }
+
     /// Writes the header and then the data unit. Each card's read is counted.
     ///
     /// Where a call fails a prefix was written.

@@ -361,6 +361,13 @@ impl Plane {
         self.store.scan_all(self.layout, &mut self.tree);
     }
 
+    /// Its bytes, to be compared with others.
+    pub fn bytes(&self) -> &[u8]
+        ensures { result.now ≡ self.now.bytes }
+    {
+        self.store.as_slice()
+    }
+
     /// Writes its bytes, or a prefix of them where a call failed.
     pub fn emit<W: Sink>(&self, sink: &mut W) -> io::Result<()>
         ensures ok { OnOk result (Prints self.now.bytes (W.state sink.old) (W.state sink.new)) }

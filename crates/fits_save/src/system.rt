@@ -68,6 +68,21 @@ impl<R: Files<File = File>> System<'_, R> {
         self.slot.beside()
     }
 
+    /// Whether what stands at the path is what was opened there, as it was then, and no other run is
+    /// taking it. None does from then on, until it's let go.
+    pub fn holds(&mut self) -> bool
+        ensures { self.new.stage ≡ self.old.stage }
+    {
+        self.slot.agrees()
+    }
+
+    /// Lets other runs over the path go on.
+    pub fn let_go(&mut self)
+        ensures { self.new.stage ≡ self.old.stage }
+    {
+        self.slot.unlock();
+    }
+
     /// Whether a file stood at the path that isn't what is read.
     pub fn replaces_another(&self) -> bool {
         self.slot.replaces_another()

@@ -1,6 +1,6 @@
 -- Edits of a file of which some data units stand for others that are as long: those that look at none of them.
-use Rattle.std.proofs.Common.{◌≡◌, ℕ, ◌+◌, ◌-◌, Bool, true, false, List, [], ◌∷◌, ◌++◌, length, map, get_or, take, drop, refl, ap, sym, ◌∙◌, subst, arith, Option, None, Some, zero, suc, inl, inr}
-use Rattle.std.specs.Prelude.{◌⊎◌, IfSome, Result, Ok, Err, if◌then◌else◌}
+use Rattle.std.proofs.Common.{◌≡◌, ℕ, ◌+◌, ◌-◌, Bool, true, false, List, [], ◌∷◌, ◌++◌, length, map, get_or, refl, ap, sym, ◌∙◌, subst, arith, Option, None, Some, zero, suc, inl, inr}
+use Rattle.std.specs.Prelude.{◌⊎◌, Result, Ok, Err, if◌then◌else◌}
 use Rattle.std.proofs.lemmas.List.Elements.{All-head, All-tail}
 use Rattle.std.specs.List.{slice_get}
 use Rattle.std.proofs.lemmas.List.{length-append}
@@ -23,8 +23,8 @@ use Rattle.fits_edit.specs.declared.hdu_edit.HduEdit.{HduEdit}
 use Rattle.fits_edit.specs.declared.hdu_edit.HduEdit.TheVariants.{Cards, Keep, Pixels, Release, Reshape, Stamp}
 use Rattle.fits_making.specs.declared.refusal.Refusal.{Refusal}
 use Rattle.fits_making.specs.declared.refusal.Refusal.TheVariants as refusal
-use Rattle.fits_unit.specs.DataUnit.{unit_at, Absence, Lies}
-use Rattle.fits_unit.proofs.AgainLemmas.{there_long}
+use Rattle.fits_unit.specs.DataUnit.{unit_at}
+use Rattle.fits_unit.proofs.AgainLemmas.{unit_long}
 use Rattle.fits_hdu.specs.State.{HduState, hdu_at, parts_of}
 use Rattle.fits_making.specs.Making.{IsHad}
 use Rattle.fits_session.specs.Away.{in_file, AllLie}
@@ -158,16 +158,7 @@ pub filled_at : (told : List ℕ) (hdus : List HduState) → hdus_of (map (hdu_a
 filled_at told [] = refl
 filled_at told (hdu ∷ hdus) = ap (λ (us : List HduParts). filled (fill_of told hdu) (parts_of hdu) ∷ us) (filled_at told hdus)
 
--- they are as long where they lie there: those that are known are the same
-long_there : (told bytes : List ℕ) (it : Absence) (known : Bool) → Lies told bytes it → length (if known then bytes else take (length bytes) (drop it.place told)) ≡ length bytes
-long_there told bytes it true lies = refl
-long_there told bytes it false lies = there_long told bytes it lies
-
--- so is any data unit that lies there
-pub unit_long : (told bytes : List ℕ) (absent : Option Absence) → IfSome absent (Lies told bytes) → length (unit_at told bytes absent) ≡ length bytes
-unit_long told bytes None lies = refl
-unit_long told bytes (Some it) lies = long_there told bytes it it.known lies
-
+-- they are as long where they lie there
 pub long_at : (told : List ℕ) (hdus : List HduState) → AllLie told hdus → AreAsLong (fills_of told hdus) (hdus_of hdus)
 long_at told [] lie = tt
 long_at told (hdu ∷ hdus) lie =

@@ -14,6 +14,7 @@ pub mod NameLemmas
 pub mod NamingLemmas
 pub mod OffsetLemmas
 pub mod OrderLemmas
+pub mod OverwritingLemmas
 pub mod PlaceLemmas
 pub mod QueryLemmas
 pub mod RefusalLemmas

@@ -14,6 +14,7 @@ use Rattle.fits_passing.specs.ExtensionName.{extension_name}
 use Rattle.fits_stream.specs.Agree.{IsOf}
 use Rattle.fits_stream.specs.Stored.{ReadLogState}
 use Rattle.fits_unit.specs.DataUnit.{unit_at, Absence, IsCounted, IsKnown}
+use Rattle.fits_unit.proofs.AgainLemmas.{seen_unit}
 use Rattle.fits_passing.specs.Hdu.{HduParts, hdu_bytes, IsHdu}
 use Rattle.fits_hdu.specs.State.{HduState, hdu_at, name_of, parts_of, IsDescribed, IsSeen}
 use Rattle.fits_hdu.specs.Work.{Loads, plane_work}
@@ -68,15 +69,9 @@ pub held_parts : (told : List ℕ) (one : HduState) → one.absent ≡ None → 
 held_parts told one held = ap (λ (absent : Option Absence). let u : HduParts = record { header = one.header.header; data_unit = unit_at told one.plane.bytes absent } in u) held
 
 -- so has one that is known
-pub seen_unit : (told bytes : List ℕ) (absent : Option Absence) → IsKnown absent → unit_at told bytes absent ≡ bytes
-seen_unit told bytes None known = refl
-seen_unit told bytes (Some it) known = ap (λ (b : Bool). if b then bytes else take (length bytes) (drop it.place told)) known
-
--- the parts of a known HDU are the same in any file
 pub seen_parts : (told : List ℕ) (one : HduState) → IsSeen one → parts_of (hdu_at told one) ≡ parts_of one
 seen_parts told one seen = ap (λ t. let u : HduParts = record { header = one.header.header; data_unit = t } in u) (seen_unit told one.plane.bytes one.absent seen)
 
--- so are those of one that came to be known
 pub known_parts : {X E : Type 0} (result : Result X E) (told : List ℕ) (old new : HduState) → OnOk result (IsSeen new) → OnOk result (parts_of new ≡ parts_of (hdu_at told old)) → OnOk result (parts_of (hdu_at told new) ≡ parts_of (hdu_at told old))
 known_parts (Ok x) told old new seen same = seen_parts told new seen ∙ same
 known_parts (Err e) told old new seen same = tt
@@ -99,7 +94,6 @@ pub parts_at : (told : List ℕ) (hdus : List HduState) → hdus_of (map (hdu_at
 parts_at told [] = refl
 parts_at told (hdu ∷ hdus) = ap (λ (us : List HduParts). parts_of (hdu_at told hdu) ∷ us) (parts_at told hdus)
 
--- which HDUs are kept doesn't depend on the file
 pub kept_at_told : (told : List ℕ) (hdus : List HduState) → kept_of (map (hdu_at told) hdus) ≡ kept_of hdus
 kept_at_told told [] = refl
 kept_at_told told (hdu ∷ hdus) = ap (λ (marks : List Bool). hdu.kept ∷ marks) (kept_at_told told hdus)
@@ -116,7 +110,6 @@ same_there told hdus tail h i old new at loads same =
     let parts = parts_at told (set hdus i new) ∙ parts_same (λ (one : HduState). parts_of (hdu_at told one)) hdus i old new at.index.within at.is same ∙ sym (parts_at told hdus) in
     marked_at told (set hdus i new) hdus tail parts (kept_of-same hdus i old new at.index.within at.is (ap (λ (one : HduState). one.kept) loads.rest))
 
--- a load that ends well leaves the file that the session is
 pub loaded_same : {X E : Type 0} {times : ℕ} (result : Result X E) (told : List ℕ) (hdus : List HduState) (tail : List ℕ) (h i : ℕ) (old new : HduState) → IsHduAt hdus h i old → Loads times old new → OnOk result (parts_of (hdu_at told new) ≡ parts_of (hdu_at told old))
     → OnOk result (marked_of (session_at told (state_of (set hdus i new) tail)) ≡ marked_of (session_at told (state_of hdus tail)))
 loaded_same (Ok x) told hdus tail h i old new at loads same = same_there told hdus tail h i old new at loads same
@@ -144,7 +137,6 @@ told_on whole told log hdus i one all within is = λ away.
 pub all_seen_still : (hdus : List HduState) (i : ℕ) (old new : HduState) → i < length hdus → old ≡ get_or hdus i old → (IsSeen old → IsSeen new) → All IsSeen hdus → All IsSeen (set hdus i new)
 all_seen_still hdus i old new within is still all = All-set IsSeen hdus i new (still (subst (λ (one : HduState). IsSeen one) (sym is) (all i old within))) all
 
--- all stay known after a load
 pub all_seen_after : {X E : Type 0} (result : Result X E) (hdus : List HduState) (i : ℕ) (old new : HduState) → i < length hdus → old ≡ get_or hdus i old → OnOk result (IsSeen new) → OnErr result (new ≡ old) → All IsSeen hdus → All IsSeen (set hdus i new)
 all_seen_after result hdus i old new within is seen same all = all_seen_still hdus i old new within is (seen_after result old new seen same) all
 

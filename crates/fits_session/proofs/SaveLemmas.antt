@@ -34,7 +34,7 @@ within : (hdus : List HduState) (us : List HduParts) (i : ℕ) → hdus_of hdus 
 within hdus us i same l = omega (arith, ap length same, length-hdus_of hdus)
 
 -- the bytes of one HDU more
-joined_more : (hdus : List HduState) (us : List HduParts) (i : ℕ) (hdu : HduState) → hdus_of hdus ≡ us → i < length hdus → hdu ≡ get_or hdus i hdu → joined_hdus (take (i + 1) us) ≡ joined_hdus (take i us) ++ hdu_bytes (parts_of hdu)
+pub joined_more : (hdus : List HduState) (us : List HduParts) (i : ℕ) (hdu : HduState) → hdus_of hdus ≡ us → i < length hdus → hdu ≡ get_or hdus i hdu → joined_hdus (take (i + 1) us) ≡ joined_hdus (take i us) ++ hdu_bytes (parts_of hdu)
 joined_more hdus us i hdu same l e =
     ap joined_hdus (take_more us i (parts_of hdu) (within hdus us i same l)) ∙ flat_map-append hdu_bytes (take i us) (get_or us i (parts_of hdu) ∷ [])
     ∙ ap (λ t. joined_hdus (take i us) ++ t) (append-nil (hdu_bytes (get_or us i (parts_of hdu))) ∙ ap hdu_bytes (hdu_here hdus us i hdu same l e))
@@ -235,6 +235,10 @@ read_same (one ∷ before) = ap (λ (hdus : List HduState). uncounted one ∷ hd
 work_same : (before : List HduState) → works_of (each_read before) ≡ works_of before
 work_same [] = refl
 work_same (one ∷ before) = ap (λ (works : List PixelWork). plane_work one.plane ∷ works) (work_same before)
+
+-- none was read
+pub once_none : (before : List HduState) → ReadsOnceAtMost before before
+once_none before = record { hdus = refl; pixel_work = refl; least = λ j. omega arith; most = λ j. read_grows before j }
 
 -- so each card was read once at most
 pub once_at_end : (before after : List HduState) → after ≡ each_read before → ReadsOnceAtMost before after

@@ -26,7 +26,7 @@ use Rattle.fits_plane.specs.Plane.{PlaneState}
 use Rattle.fits_hdu.specs.Stamp.{stamped}
 use Rattle.fits_hdu.specs.State.{HduState, hdu_at, parts_of, HasPixels, HasStats, IsDescribed, IsSeen}
 use Rattle.fits_unit.specs.DataUnit.{unit_at, Absence, IsCounted, IsKnown, Lies}
-use Rattle.fits_unit.proofs.AgainLemmas.{there_long}
+use Rattle.fits_unit.proofs.AgainLemmas.{seen_unit, there_long, unit_long}
 use Rattle.fits_edit.specs.declared.edit.Edit.{Edit}
 use Rattle.fits_edit.specs.declared.edit.Edit.TheVariants.{Hdu, NewImage, RemoveHdu}
 use Rattle.fits_edit.specs.declared.hdu_edit.HduEdit.{HduEdit}
@@ -45,11 +45,11 @@ use Rattle.fits_session.specs.Marked.{is_kept, kept_in, marked_after, marked_ref
 use Rattle.fits_session.specs.Refusal.{new_image_refusal, refusal_in, refusal_of, removal_refusal, size_refusal}
 use Rattle.fits_session.specs.Session.{absences_after, absences_of, file_of, hdus_of, kept_of, marked_of, session_at, state_of, IsReadyFor, IsSoOf, SessionState}
 use Rattle.fits_session.proofs.ChangeLemmas.{changed_at-both}
-use Rattle.fits_session.proofs.FilledLemmas.{alike_filled, alike_made, fill_of, filled, filled_at, fills_of, long_at, long_filled, made_filled, refusal_filled, unit_long, unlooked, AreAlike, HasNoKind, LooksAtNone}
+use Rattle.fits_session.proofs.FilledLemmas.{alike_filled, alike_made, fill_of, filled, filled_at, fills_of, long_at, long_filled, made_filled, refusal_filled, unlooked, AreAlike, HasNoKind, LooksAtNone}
 use Rattle.fits_session.proofs.HadLemmas.{seen_held}
 use Rattle.fits_session.proofs.KeptLemmas.{parts_same_at}
 use Rattle.fits_session.proofs.ListEditLemmas.{new_length}
-use Rattle.fits_session.proofs.LoadedLemmas.{kept_at_told, parts_at, seen_parts, seen_unit}
+use Rattle.fits_session.proofs.LoadedLemmas.{kept_at_told, parts_at, seen_parts}
 use Rattle.fits_session.proofs.StateLemmas.{IsHduAt, described_there, kept_there, length-hdus_of}
 
 -- an HDU in a file: where its data unit isn't known it is what the file has at its place

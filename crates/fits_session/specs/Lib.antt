@@ -2,6 +2,7 @@ pub mod Away
 pub mod Edit
 pub mod Marked
 pub mod NameTable
+pub mod Overwriting
 pub mod Query
 pub mod Reading
 pub mod Refusal

@@ -195,6 +195,13 @@ impl<'f, F: Stored> InFile<'f, F> {
             room: buffer_of(alloc, ROOM_LEN)?,
         })
     }
+
+    /// The file.
+    pub(crate) fn file(&self) -> &'f F
+        ensures { result.now ≡ self.now }
+    {
+        self.file
+    }
 }
 
 impl<'f, F: Stored> Holder for InFile<'f, F> {

@@ -7,6 +7,7 @@ mod list_edits;
 mod loading;
 mod naming;
 mod opening;
+mod overwriting;
 mod queries;
 mod reading;
 mod saving;

@@ -14,4 +14,6 @@ mod keeping;
 #[cfg(test)]
 mod memory;
 #[cfg(test)]
+mod overwriting;
+#[cfg(test)]
 mod reading;

@@ -110,11 +110,27 @@ fn check_part<R: Abort + AllocGlobal>(
         check_painted(rt, &mut found, &mut wanted, &stored, *row)?;
         holds!(rt; !found.is_held(), row);
         check_same_unit(rt, &mut found, &wanted, &stored)?;
+        check_pieces(rt, &found, &wanted, bytes);
     }
     let mut room = [0u8; 400];
     found.load(rt.alloc(), &stored, &mut ReadLog::none(), &mut room)?;
     holds!(rt; found.is_held());
+    check_pieces(rt, &found, &wanted, bytes);
     check_same_unit(rt, &mut found, &wanted, &broken_bytes(&[], 0))
+}
+
+// Whether each piece of a data unit in memory is that of a plane, and each other as it passed by.
+fn check_pieces<R: Abort>(rt: &R, found: &DataUnit, wanted: &Plane, passed: &[u8]) {
+    let (mut painted, mut there) = (wanted.bytes(), passed);
+    for index in 0..found.piece_count() {
+        let (piece, next) = painted.split_at(PIECE_LEN.min(painted.len()));
+        let (old, rest) = there.split_at(PIECE_LEN.min(there.len()));
+        let held = found.piece(index);
+        holds!(rt; held.is_some() || !found.is_held(), index);
+        holds!(rt; held.unwrap_or(old) == piece, index);
+        (painted, there) = (next, rest);
+    }
+    holds!(rt; painted.is_empty() && there.is_empty());
 }
 
 // Paints pixels of a data unit, which are loaded, and of a plane, and reads them.

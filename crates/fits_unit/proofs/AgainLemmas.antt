@@ -1,6 +1,6 @@
 -- Bytes of a stored file that are read again.
-use Rattle.std.proofs.Common.{refl, ◌≡◌, ◌+◌, ◌<◌, ◌≤◌, ◌%◌, ◌/◌, ℕ, List, [], ◌++◌, length, min, take, drop, ap, sym, ◌∙◌, arith, subst, append_assoc, true, Option, Some}
-use Rattle.std.specs.Prelude.{Bool, false, if◌then◌else◌}
+use Rattle.std.proofs.Common.{refl, ◌≡◌, ◌+◌, ◌<◌, ◌≤◌, ◌%◌, ◌/◌, ℕ, List, [], ◌++◌, length, min, take, drop, ap, sym, ◌∙◌, arith, subst, append_assoc, true, Option, None, Some}
+use Rattle.std.specs.Prelude.{Bool, false, if◌then◌else◌, IfSome}
 use Rattle.std.proofs.lemmas.List.{append-nil, length-append, length-drop, length-take, take-append-drop, take-take, take_all}
 use Rattle.std.proofs.Math.Seq.{take-append_seam}
 use Rattle.std.specs.List.{slice_get}
@@ -14,7 +14,7 @@ use Rattle.fits_stream.proofs.StreamLemmas.{PrintsFront-longer, Reads-more}
 use Rattle.fits_sum.specs.Words.{word_total}
 use Rattle.fits_sum.proofs.WordLemmas.{word_total-append}
 use Rattle.fits_unit.specs.Again.{CopyFails, CopyNextStops, CopyStops, Follows, LoadStops, NextShort, NextStops, ReadsFewer}
-use Rattle.fits_unit.specs.DataUnit.{away_at, away_plane, unit_at, Absence, Lies}
+use Rattle.fits_unit.specs.DataUnit.{away_at, away_plane, unit_at, Absence, IsKnown, Lies}
 use Rattle.fits_unit.specs.declared.away_unit.AwayUnit.{AwayUnit}
 use Rattle.fits_unit.specs.declared.again.CopyFault.{CopyFault}
 use Rattle.fits_unit.specs.declared.again.CopyFault.TheVariants.{Failed, Changed, Write}
@@ -122,6 +122,20 @@ unit_there xs own it false is lies same = refl
 -- one that is what passed by lies in the file
 pub told_unit : (xs own : List ℕ) (it : Absence) → Lies xs own it → it.passed ≡ own → take (length own) (drop it.place xs) ≡ unit_at xs own (Some it)
 told_unit xs own it lies same = unit_there xs own it it.known refl lies same
+
+-- one that is known is the same in each file
+pub seen_unit : (xs own : List ℕ) (absent : Option Absence) → IsKnown absent → unit_at xs own absent ≡ own
+seen_unit xs own None known = refl
+seen_unit xs own (Some it) known = ap (λ (b : Bool). if b then own else take (length own) (drop it.place xs)) known
+
+-- it is as long there: one that is known is the same
+long_there : (xs own : List ℕ) (it : Absence) (known : Bool) → Lies xs own it → length (if known then own else take (length own) (drop it.place xs)) ≡ length own
+long_there xs own it true lies = refl
+long_there xs own it false lies = there_long xs own it lies
+
+pub unit_long : (xs own : List ℕ) (absent : Option Absence) → IfSome absent (Lies xs own) → length (unit_at xs own absent) ≡ length own
+unit_long xs own None lies = refl
+unit_long xs own (Some it) lies = long_there xs own it it.known lies
 
 -- so of one that is away
 pub told_away : (xs : List ℕ) (place : ℕ) (it : AwayUnit) (bytes : List ℕ) → Lies xs (away_plane it).bytes (away_at place it) → bytes ≡ take (length (away_plane it).bytes) (drop place xs) → bytes ≡ unit_at xs (away_plane it).bytes (Some (away_at place it))

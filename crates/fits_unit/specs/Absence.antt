@@ -72,6 +72,11 @@ pub record Holds (axes lo hi : List ℕ) (layout : Layout) (it : Absence) : Type
 abbrev pub HasRectangle : (axes lo hi : List ℕ) → PlaneState → Option Absence → Type 0
 HasRectangle axes lo hi plane absent = IfSome absent (Holds axes lo hi plane.layout)
 
+-- is a piece of it in memory?
+abbrev pub holds_piece : Option Absence → ℕ → Bool
+holds_piece None index = true
+holds_piece (Some it) index = get_or it.held index false
+
 -- the bytes of a data unit in a file of these bytes: those that are known, or those that the file has at its place
 abbrev pub unit_at : List ℕ → List ℕ → Option Absence → List ℕ
 unit_at told unit None = unit

@@ -2,7 +2,8 @@
 use Rattle.std.specs.Prelude.{ℕ, ℤ, Bool, true, false, if◌then◌else◌, List, [], Option, None, Some}
 use Rattle.fits_pixels.specs.Layout.{block_count}
 use Rattle.fits_plane.specs.Plane.{PlaneState}
-pub use Rattle.fits_unit.specs.Absence.{blanked, part_at, part_of, unit_at, Absence, Counts, HasRectangle, Holds, IsAway, IsCounted, IsKnown, IsPart, Lies, LiesIn, PartState, UnitState}
+pub use Rattle.fits_pieces.specs.Piece.{piece_of, pieces_in}
+pub use Rattle.fits_unit.specs.Absence.{blanked, holds_piece, part_at, part_of, unit_at, Absence, Counts, HasRectangle, Holds, IsAway, IsCounted, IsKnown, IsPart, Lies, LiesIn, PartState, UnitState}
 use Rattle.fits_unit.specs.declared.absent.Absent.{Absent}
 use Rattle.fits_unit.specs.declared.absent.Absent.TheVariants.{Away, InPart}
 use Rattle.fits_unit.specs.declared.away_unit.AwayUnit.{AwayUnit}
@@ -44,6 +45,11 @@ lies_at (InPart it) = part_at it
 abbrev pub absence_of : Option Absent → Option Absence
 absence_of None = None
 absence_of (Some it) = Some (lies_at it)
+
+-- its place in its file, if not all of it is in memory
+abbrev pub place_of : Option Absence → Option ℕ
+place_of None = None
+place_of (Some it) = Some it.place
 
 -- how many of its blocks were scanned as its bytes passed by, if they did
 abbrev pub passed_blocks : AwayUnit → ℕ

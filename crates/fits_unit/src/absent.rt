@@ -17,12 +17,13 @@ pub enum Absent {
 }
 
 impl Absent {
-    ghost use Rattle.std.specs.Prelude.{◌≡◌, ◌^◌, ◌≤◌, ◌↔◌, true, drop, length, nat_eq, unsigned_abs, IsTrue};
+    ghost use Rattle.std.specs.Prelude.{◌≡◌, ◌^◌, ◌≤◌, ◌<◌, ◌↔◌, false, true, drop, is_some, length, nat_eq, slice_index_or, unsigned_abs, IfNone, IfSome, IsTrue};
     ghost use Rattle.std.specs.List.{list_all};
     ghost use Rattle.fits_sum.specs.Words.{word_total};
     ghost use Rattle.fits_pixels.specs.Layout.{IsLayout};
     ghost use Rattle.fits_pixels.specs.Pixels.{pixels};
     ghost use Rattle.fits_pixels.specs.Statistics.{value_statistics};
+    ghost use Rattle.fits_pieces.specs.Piece.{piece_of, pieces_in};
     ghost use Rattle.fits_unit.specs.DataUnit.{blanked, absent_plane, lies_at, Counts};
 
     /// How its bytes are read.
@@ -43,6 +44,32 @@ impl Absent {
         match self {
             Absent::Away(it) => it.unit.byte_len(),
             Absent::InPart(it) => it.byte_len(),
+        }
+    }
+
+    /// Where it lies in its file.
+    pub(crate) fn place(&self) -> u64
+        ensures { result ≡ (lies_at self.now).place }
+    {
+        match self {
+            Absent::Away(it) => it.place,
+            Absent::InPart(it) => it.place(),
+        }
+    }
+
+    /// The bytes of a piece, if it is in memory. One that isn't is as it passed by.
+    pub(crate) fn piece(&self, index: usize) -> Option<&[u8]>
+        requires { index < pieces_in (length (absent_plane self.now).bytes) }
+        ensures value { IfSome result
+            (λ b. b.now ≡ piece_of (absent_plane self.now).bytes index) }
+        ensures held { is_some result ≡ slice_index_or (lies_at self.now).held index false }
+        ensures known { IfSome result (λ _. (lies_at self.now).known ≡ true) }
+        ensures away { IfNone result (piece_of (absent_plane self.now).bytes index
+            ≡ piece_of (lies_at self.now).passed index) }
+    {
+        match self {
+            Absent::Away(_) => None,
+            Absent::InPart(it) => it.piece(index),
         }
     }
 

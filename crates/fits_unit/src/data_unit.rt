@@ -64,7 +64,7 @@ impl DataUnit {
     ghost use Rattle.fits_plane.specs.Painting.{Paints, Suits};
     ghost use Rattle.fits_plane.specs.Rectangle.{IsRectangle, product, rectangle_size, rectangle_values};
     ghost use Rattle.fits_unit.specs.Again.{copied_blocks, CopiesUnit, CopyCounts, CopyFails, CopyWrites, Follows, HasTotal, LoadCounts, Looks, PrintsAs, ReadsRest};
-    ghost use Rattle.fits_unit.specs.DataUnit.{away_at, away_plane, opened_blocks, unit_at, HasRectangle, IsAway, IsCounted, IsKnown, LiesIn};
+    ghost use Rattle.fits_unit.specs.DataUnit.{away_at, away_plane, opened_blocks, place_of, unit_at, HasRectangle, IsAway, IsCounted, IsKnown, LiesIn};
     ghost use Rattle.fits_unit.specs.Part.{BeginsPart, CanBePart, LoadsMore, LoadsSome};
 
     /// A data unit in memory.
@@ -116,6 +116,16 @@ impl DataUnit {
         match &self.absent {
             None => true,
             Some(it) => it.is_counted(),
+        }
+    }
+
+    /// Where it lies in its file, if it isn't in memory.
+    pub fn place(&self) -> Option<u64>
+        ensures { result ≡ place_of self.now.absent }
+    {
+        match &self.absent {
+            None => None,
+            Some(it) => Some(it.place()),
         }
     }
 
@@ -962,3 +972,4 @@ fn plane_in_part<F: Stored>(
 }
 
 mod fields;
+mod pieces;

@@ -36,7 +36,7 @@ impl Model for PartUnit {
 }
 
 impl PartUnit {
-    ghost use Rattle.std.specs.Prelude.{◌≡◌, ◌≤◌, ◌<◌, ◌*◌, ◌+◌, ◌^◌, ℕ, List, take, drop, length, nat_eq, unsigned_abs, IfErr, IfOk, IsOk, OnErr, OnOk};
+    ghost use Rattle.std.specs.Prelude.{◌≡◌, ◌≤◌, ◌<◌, ◌*◌, ◌+◌, ◌^◌, ℕ, List, false, take, drop, is_some, length, nat_eq, slice_index_or, unsigned_abs, IfErr, IfNone, IfOk, IfSome, IsOk, OnErr, OnOk};
     ghost use Rattle.std.specs.List.{list_all};
     ghost use Rattle.fits_stream.specs.Agree.{IsOf};
     ghost use Rattle.fits_stream.specs.Stream.{Prints};
@@ -46,7 +46,7 @@ impl PartUnit {
     ghost use Rattle.fits_pixels.specs.Statistics.{value_statistics};
     ghost use Rattle.fits_plane.specs.Painting.{Paints, Suits};
     ghost use Rattle.fits_plane.specs.Rectangle.{product, rectangle_size, rectangle_values, IsRectangle};
-    ghost use Rattle.fits_pieces.specs.Piece.{pieces_in};
+    ghost use Rattle.fits_pieces.specs.Piece.{piece_of, pieces_in};
     ghost use Rattle.fits_pieces.specs.Pieces.{away_blocks, HoldsRectangle};
     ghost use Rattle.fits_unit.specs.Again.{CopiesUnit, CopyCounts, CopyFails, CopyWrites, Follows, LoadCounts, Looks, PrintsAs, ReadsRest};
     ghost use Rattle.fits_unit.specs.Absence.{blanked, part_at, part_of, IsPart};
@@ -70,6 +70,28 @@ impl PartUnit {
         } }
     {
         self.unit.go_on(scans);
+    }
+
+    /// Where it lies in its file.
+    pub(crate) fn place(&self) -> u64
+        ensures { result ≡ self.now.place }
+    {
+        self.place
+    }
+
+    /// The bytes of a piece, if it is in memory. One that isn't is as it passed by.
+    pub(crate) fn piece(&self, index: usize) -> Option<&[u8]>
+        requires { index < pieces_in (length self.now.plane.bytes) }
+        ensures value { IfSome result (λ b. b.now ≡ piece_of self.now.plane.bytes index) }
+        ensures held { is_some result ≡ slice_index_or self.now.held index false }
+        ensures away { IfNone result
+            (piece_of self.now.plane.bytes index ≡ piece_of self.now.passed index) }
+    {
+        let _count = self.unit.piece_count();
+        if !self.unit.is_held(index) {
+            return None;
+        }
+        Some(self.unit.piece_bytes(index))
     }
 
     /// How its bytes are read.

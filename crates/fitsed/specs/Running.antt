@@ -1,10 +1,12 @@
 -- What a run over a file of the system comes to, by what its calls gave and took (own).
-use Rattle.std.specs.Prelude.{◌≡◌, ◌⊎◌, Bool, true, false, [], Option, Some, Result, Err}
+use Rattle.std.specs.Prelude.{◌≡◌, ◌⊎◌, ℕ, Bool, true, false, List, [], Option, Some, Result, Err}
+use Rattle.fits_stream.specs.Agree.{IsOf}
 use Rattle.fits_stream.specs.Log.{unbegun}
 use Rattle.fits_stream.specs.Stored.{ReadLogState}
 use Rattle.fits_stream.specs.Stream.{SinkState, SourceState}
-use Rattle.fits_cli.specs.Ends.{end_of, run_by, EndsAs, EndsBy, OverReads, RemarksBy, RemarksEndAs}
+use Rattle.fits_cli.specs.Ends.{end_of, run_by, stored_file, EndsAs, EndsBy, OverReads, RemarksBy, RemarksEndAs}
 use Rattle.fits_cli.specs.Frame.{AsksLeave, LeavesAs}
+use Rattle.fits_cli.specs.Planned.{edited_of, EndsOver, LeavesOver}
 use Rattle.fits_cli.specs.Terms.{asking}
 use Rattle.fits_cli.specs.declared.edited.Edited.{Edited}
 use Rattle.fits_tell.specs.declared.end.End.{End}
@@ -14,9 +16,10 @@ use Rattle.fits_tell.specs.declared.reread.Reread.TheVariants as again
 use Rattle.fits_tell.specs.declared.level.Level.{Level}
 use Rattle.fits_tell.specs.declared.level.Level.TheVariants.{All, Errors, Quiet}
 use Rattle.fits_cli.specs.declared.manner.Manner.{Manner}
+use Rattle.fits_cli.specs.declared.planned.Planned.{Planned}
 use Rattle.fits_cli.specs.declared.saves.Saves.TheVariants.{Made}
 use Rattle.fits_cli.specs.declared.terms.Terms.{Terms}
-use Rattle.fitsed.specs.Saving.{is_saved, StandsOrFails}
+use Rattle.fitsed.specs.Saving.{is_saved, plan_of, EndsInPlace, StandsOrFails}
 use Rattle.fitsed.specs.declared.task.SavingTerms.{SavingTerms}
 
 -- the streams of a run: its script, the sink of its answers, that of its result, and that of remarks, if there is one
@@ -82,6 +85,29 @@ pub record EditsFile (asked : SavingTerms) (script script' : SourceState) (out o
   pub runs : RunsThen (terms_by asked spare) (record { script = script; out = out; saved = saved; told = told }) (record { script = script'; out = out'; saved = holds; told = told_after }) done
   pub kept : StandsOrFails done ended
 
+-- a run over a file that is held was made, by what its reads gave, first and again: it was told that the file has so many bytes
+pub record RunsOver (terms : Terms) (old new : Streams) (done : Result Planned Fault) : Type 0 where
+  pub log : ReadLogState
+  pub len : ℕ
+  pub ends : (bytes : List ℕ) → IsOf bytes log
+      → EndsOver len bytes (run_by terms true (stored_file bytes unread) old.script old.out) (run_by terms true (stored_file bytes log) new.script new.out) old.saved new.saved done
+  pub remarks : OverReads unread log (λ file after. RemarksBy terms file after old.script new.script old.told new.told (edited_of done))
+  pub leaves : LeavesOver terms old.script new.script old.out new.out old.saved new.saved done
+
+-- a run over a file that is held was made, and its result kept, if it could be, or the blocks of its plan written into the file
+pub record EditsHeld (asked : SavingTerms) (script script' : SourceState) (out out' : SinkState) (ended : Result Edited Fault) : Type 0 where
+  pub spare : Bool
+  pub saved : SinkState
+  pub holds : SinkState
+  pub told : Option SinkState
+  pub told_after : Option SinkState
+  pub ran : Result Planned Fault
+  pub done : Result Edited Fault
+  pub fresh : saved.contents.taken ≡ Some []
+  pub runs : RunsOver (terms_by asked spare) (record { script = script; out = out; saved = saved; told = told }) (record { script = script'; out = out'; saved = holds; told = told_after }) ran
+  pub stands : IsOrChanged (edited_of ran) done
+  pub kept : EndsInPlace (plan_of ran) done ended
+
 -- none was begun, for want of memory, of the file or of its place: no other stream was touched
 pub record EditsNothing (script script' : SourceState) (out out' : SinkState) (ended : Result Edited Fault) : Type 0 where
   pub failed : (ended ≡ Err Memory) ⊎ ((ended ≡ Err ReadFailed) ⊎ (ended ≡ Err WriteFailed))
@@ -91,6 +117,10 @@ pub record EditsNothing (script script' : SourceState) (out out' : SinkState) (e
 -- a file is edited, or isn't
 abbrev pub Edits : SavingTerms → SourceState → SourceState → SinkState → SinkState → Result Edited Fault → Type 0
 Edits asked script script' out out' ended = EditsFile asked script script' out out' ended ⊎ EditsNothing script script' out out' ended
+
+-- a file that may be changed in its place is edited while it is held, or as any other is, or it isn't edited
+abbrev pub EditsSo : SavingTerms → SourceState → SourceState → SinkState → SinkState → Result Edited Fault → Type 0
+EditsSo asked script script' out out' ended = EditsHeld asked script script' out out' ended ⊎ Edits asked script script' out out' ended
 
 -- a script was done over a file that stays where it is
 pub record AsksByPlaces (manner : Manner) (script script' : SourceState) (out out' : SinkState) (end : End) : Type 0 where

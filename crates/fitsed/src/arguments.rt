@@ -55,6 +55,7 @@ const EDITS: Form = Form {
             'S',
             "Save nothing where what stands at OUT can't stay whole until all is saved",
         ),
+        Word::Overwrite,
         Word::Backup,
         Word::In,
         Word::Out,

@@ -3,6 +3,7 @@ use crate::detail::Detail;
 use crate::files::source_of;
 use crate::reporting::{reported, reported_of};
 use crate::subject::Subject;
+use crate::unfinished::{NOT_DONE, is_unfinished};
 use fits_cli::Fault;
 use fits_diff::{DiffFault, run_diff};
 use fits_stream::Watched;
@@ -21,6 +22,9 @@ pub fn compare<R: Files<File = File> + Print + Eprint + AllocGlobal>(
     let Ok(mut out) = BufWriter::new(rt.alloc(), io::writer(rt)) else {
         return reported(rt, Fault::Memory);
     };
+    if is_unfinished(rt, first) || is_unfinished(rt, second) {
+        return NOT_DONE;
+    }
     let Ok(a) = fs::open(rt, first) else {
         return reported_name(rt, first, detail, Fault::ReadFailed);
     };

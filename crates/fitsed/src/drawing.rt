@@ -3,6 +3,7 @@ use crate::comparing::reported_name;
 use crate::detail::Detail;
 use crate::files::{is_stored, source_of};
 use crate::reporting::{NOT_TAKEN, reported};
+use crate::unfinished::{NOT_DONE, is_unfinished};
 use fits_cli::Fault;
 use fits_passing::Look;
 use fits_patch::{PatchEnd, PatchFault, run_patch};
@@ -24,6 +25,9 @@ pub fn draw<R: Files<File = File> + Print + Eprint + AllocGlobal>(
     let Ok(mut out) = BufWriter::new(rt.alloc(), io::writer(rt)) else {
         return reported(rt, Fault::Memory);
     };
+    if is_unfinished(rt, first) || is_unfinished(rt, second) {
+        return NOT_DONE;
+    }
     let Ok(a) = fs::open(rt, first) else {
         return reported_name(rt, first, detail, Fault::ReadFailed);
     };

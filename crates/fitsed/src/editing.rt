@@ -1,14 +1,15 @@
 //! Files that are edited.
-ghost use Rattle.std.specs.Prelude.{◌≡◌, true, None};
+ghost use Rattle.std.specs.Prelude.{◌≡◌, false, true, None};
 ghost use Rattle.std.specs.Io.Buffered.{writer_inner};
 ghost use Rattle.std.specs.Option.{option_map};
-ghost use Rattle.fitsed.specs.Running.{terms_by, Edits, IsOrChanged, RunsThen};
-ghost use Rattle.fitsed.specs.Saving.{is_saved, status_of_saving, IsPlaced, StandsOrFails};
+ghost use Rattle.fitsed.specs.Running.{terms_by, Edits, EditsSo, IsOrChanged, RunsThen};
+ghost use Rattle.fitsed.specs.Saving.{is_saved, status_told, IsPlaced, StandsOrFails};
 
 use crate::detail::Detail;
 use crate::explaining::INPUT;
 use crate::files::{Standing, is_stored, mode_of, standing_at};
 use crate::listed::{FileList, listed};
+use crate::overwriting::overwritten;
 use crate::piece::{Piece, script_of};
 use crate::progress::Progress;
 use crate::remarks::{before_remarks, remarks_after};
@@ -17,13 +18,15 @@ use crate::reporting::{
     report_replaced, report_undone, reported, reported_oddity, reported_of, reported_save,
     reported_script,
 };
-use crate::saved_end::SavedEnd;
+use crate::saved_end::{SavedEnd, Told};
 use crate::scaled::{has_pixel_line, tell_scaled};
 use crate::subject::Subject;
 use crate::task::{Inputs, SavingTerms};
+use crate::unfinished::{NOT_DONE, finished_first, is_unfinished, reported_held};
 use crate::words::oddity_of;
 use crate::wrong_sums::tell_wrong_sums;
 use fits_cli::{Edited, Fault, Level, Reread, Saves, Terms, run_edit_stored, run_edit_told};
+use fits_redo::{OpenFault, System as Held};
 use fits_save::{Place, SaveFault, SavedFile, Seen, System};
 use fits_stream::{FileSource, NamedLines, ReadLog, Sink, Source, Watched};
 use std::alloc::Global;
@@ -34,9 +37,9 @@ use std::{fs, io};
 
 /// A file that is edited, and where it is saved to.
 #[derive(Clone, Copy)]
-struct FilePair<'p> {
-    subject: Subject<'p>,
-    to: &'p str,
+pub struct FilePair<'p> {
+    pub subject: Subject<'p>,
+    pub to: &'p str,
 }
 
 /// Edits the file that is told of; the result goes to `to`. With no pieces the script is standard
@@ -48,6 +51,9 @@ pub fn edit<R: Files<File = File> + Input + Print + Eprint + AllocGlobal>(
     to: &str,
     terms: SavingTerms<'_>,
 ) -> u8 {
+    if is_unfinished(rt, subject.name) || is_unfinished(rt, to) {
+        return NOT_DONE;
+    }
     if terms.fresh && fs::symlink_metadata(rt, to).is_ok() {
         let _ = eprintln!(rt; "fitsed: {to}: stands there");
         return NOT_TAKEN;
@@ -105,6 +111,14 @@ pub fn edit_in_place<
             named: files.named,
             detail,
         };
+        match finished_first(rt, subject) {
+            Told::Nothing => {}
+            Told::OfFile => {
+                status = NOT_DONE;
+                continue;
+            }
+            Told::OfAll => return NOT_DONE,
+        }
         let at = FilePair { subject, to: path };
         tell_values(rt, subject, &text);
         let done = named_edited(rt, at, terms, &mut text.as_slice(), &mut out);
@@ -141,17 +155,41 @@ fn named_edited<R: Files<File = File> + Eprint + AllocGlobal, S: Source, W: Writ
 ) -> SavedEnd {
     let mut out = Watched::new(out);
     if !at.subject.named {
-        return edited(rt, at, terms, script, &mut out);
+        return edited_so(rt, at, terms, script, &mut out);
     }
     let Ok(name) = format!(in rt.alloc(); "{}:", at.subject.name) else {
         return SavedEnd::from(Fault::Memory);
     };
     let mut out = NamedLines::new(out, name.as_bytes());
-    edited(rt, at, terms, script, &mut out)
+    edited_so(rt, at, terms, script, &mut out)
 }
 
-// Edits a file, and keeps the result where it is to be.
-fn edited<R: Files<File = File> + Eprint + AllocGlobal, S: Source, O: Sink>(
+// Edits a file, in its place where that is asked for.
+fn edited_so<R: Files<File = File> + Eprint + AllocGlobal, S: Source, O: Sink>(
+    rt: &R,
+    at: FilePair<'_>,
+    terms: SavingTerms<'_>,
+    script: &mut S,
+    out: &mut O,
+) -> SavedEnd
+    ensures so { EditsSo terms.entry (S.state script.old) (S.state script.new)
+        (O.state out.old) (O.state out.new) result.done }
+    ensures anew { terms.entry.overwrite ≡ false → Edits terms.entry (S.state script.old)
+        (S.state script.new) (O.state out.old) (O.state out.new) result.done }
+{
+    if !terms.overwrite {
+        return edited(rt, at, terms, script, out);
+    }
+    match Held::open(rt, at.to) {
+        Ok(pair) => overwritten(rt, pair, at, terms, script, out),
+        Err(OpenFault::Busy) => SavedEnd::told(reported_held(rt, at.subject, OpenFault::Busy)),
+        // It can't be written in its place, so it's written anew.
+        Err(OpenFault::Failed(_)) => edited(rt, at, terms, script, out),
+    }
+}
+
+/// Edits a file, and keeps the result where it is to be.
+pub fn edited<R: Files<File = File> + Eprint + AllocGlobal, S: Source, O: Sink>(
     rt: &R,
     at: FilePair<'_>,
     terms: SavingTerms<'_>,
@@ -235,9 +273,9 @@ fn run_over<S: Source, P: Sink, O: Sink, E: Sink>(
     }
 }
 
-// What a run over a stored file came to, unless the file is another than it was seen to be as the run
-// began: then its result isn't kept.
-fn unless_changed(
+/// What a run over a stored file came to, unless the file is another than it was seen to be as the run
+/// began: then its result isn't kept.
+pub fn unless_changed(
     file: &File,
     seen: Option<Seen>,
     done: Result<Edited, Fault>,
@@ -253,8 +291,8 @@ fn unless_changed(
     }
 }
 
-// The terms of a run. A file that stands where its result goes is spared.
-fn terms_of(terms: SavingTerms<'_>, there: Standing) -> Terms
+/// The terms of a run. A file that stands where its result goes is spared.
+pub fn terms_of(terms: SavingTerms<'_>, there: Standing) -> Terms
     ensures { result ≡ terms_by terms.entry result.spare }
 {
     let check = match (terms.checked, terms.strict) {
@@ -286,8 +324,8 @@ fn refusal_of<R: Files<File = File>>(
     saved.place().refusal(terms.saving, spares)
 }
 
-// Ends the saving, and tells of it.
-fn finished<R: Files<File = File> + Eprint>(
+/// Ends the saving, and tells of it.
+pub fn finished<R: Files<File = File> + Eprint>(
     rt: &R,
     at: FilePair<'_>,
     there: Standing,
@@ -336,6 +374,7 @@ fn kept<P: Place + Drop>(
         done,
         fault: None,
         met: 0,
+        told: Told::Nothing,
     };
     if !ended.is_saved() {
         let fault = saved.get_ref().fault();
@@ -358,8 +397,11 @@ fn status_of<R: Files<File = File> + Eprint + AllocGlobal>(
     other: &str,
     ended: &SavedEnd,
 ) -> u8
-    ensures { result ≡ status_of_saving ended.now.fault ended.now.done }
+    ensures { result ≡ status_told ended.now.told ended.now.fault ended.now.done }
 {
+    if !matches!(ended.told, Told::Nothing) {
+        return NOT_DONE;
+    }
     match ended.done {
         Ok(Edited::KeptBack(undone)) => report_undone(rt, at.to, undone),
         Ok(Edited::Unsound { errors, warnings }) => report_new(rt, at.to, errors, warnings),

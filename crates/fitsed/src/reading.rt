@@ -16,6 +16,7 @@ use crate::reporting::{
 use crate::scaled::{has_pixel_line, tell_scaled};
 use crate::subject::Subject;
 use crate::task::Inputs;
+use crate::unfinished::{NOT_DONE, is_unfinished, unfinished_end};
 use crate::words::oddity_of;
 use fits_cli::{
     CardChoice, End, Fault, Manner, Telling, run_ask, run_ask_stored, run_cards, run_telling,
@@ -142,7 +143,7 @@ pub fn each<
             if ends_all(fault) {
                 return status;
             }
-        } else if detail.tells() && job.has_values() {
+        } else if end.status != NOT_DONE && detail.tells() && job.has_values() {
             tell_scaled(rt, subject);
         }
     }
@@ -211,11 +212,14 @@ fn found<R: rt::Files<File = File> + Eprint + AllocGlobal>(
 }
 
 // The status is 1 where a file has no card of one of these choices.
-fn lacking<R: rt::Files<File = File> + AllocGlobal>(
+fn lacking<R: rt::Files<File = File> + Eprint + AllocGlobal>(
     rt: &R,
     choices: &[CardChoice],
     subject: Subject<'_>,
 ) -> End {
+    if let Some(end) = unfinished_end(rt, subject.name) {
+        return end;
+    }
     for choice in choices {
         let Ok(file) = fs::open(rt, subject.name) else {
             return End::from(Fault::ReadFailed);
@@ -240,6 +244,9 @@ fn one<R: rt::Files<File = File> + Eprint + AllocGlobal, W: Write>(
     subject: Subject<'_>,
     out: &mut W,
 ) -> End {
+    if let Some(end) = unfinished_end(rt, subject.name) {
+        return end;
+    }
     let Ok(file) = fs::open(rt, subject.name) else {
         return End::from(Fault::ReadFailed);
     };
@@ -261,6 +268,9 @@ fn as_json<R: rt::Files<File = File> + Eprint + AllocGlobal, W: Write>(
     subject: Subject<'_>,
     out: &mut W,
 ) -> End {
+    if let Some(end) = unfinished_end(rt, subject.name) {
+        return end;
+    }
     let Ok(file) = fs::open(rt, subject.name) else {
         return End::from(Fault::ReadFailed);
     };
@@ -306,6 +316,9 @@ fn ask_as_it_comes<R: rt::Files<File = File> + Input + Print + Eprint + AllocGlo
     let Ok(mut out) = BufWriter::new(rt.alloc(), io::writer(rt)) else {
         return reported(rt, Fault::Memory);
     };
+    if is_unfinished(rt, subject.name) {
+        return NOT_DONE;
+    }
     let Ok(file) = fs::open(rt, subject.name) else {
         return reported_of(rt, subject, INPUT, Fault::ReadFailed);
     };

@@ -92,6 +92,8 @@ pub struct SavingTerms<'a> {
     pub tables: bool,
     /// Only where nothing stands.
     pub fresh: bool,
+    /// By its changed blocks alone, where they can be written into the file itself.
+    pub overwrite: bool,
     /// Only where the file that stands there stays whole, or is kept.
     pub saving: Saving<'a>,
 }
@@ -267,6 +269,7 @@ fn terms_of<'a>(words: &ArgMatches<'a>) -> SavingTerms<'a> {
         extended: words.get_flag("extended"),
         tables: words.get_flag("tables"),
         fresh: words.get_flag("no-clobber"),
+        overwrite: words.get_flag("overwrite"),
         saving: Saving {
             safe: words.get_flag("safe"),
             backup: words.get_str("backup"),

@@ -21,6 +21,8 @@ pub enum Word {
     Done,
     /// Whether a file that stands at OUT stays.
     NoClobber,
+    /// Whether the file itself is written.
+    Overwrite,
     /// What ends the name that the old file keeps.
     Backup,
     /// Whether each line begins with the name of its file.
@@ -77,6 +79,7 @@ impl Word {
             Word::Strict => strict(alloc),
             Word::Done => done(alloc),
             Word::NoClobber => no_clobber(alloc),
+            Word::Overwrite => overwrite(alloc),
             Word::Backup => Ok(backup(alloc)),
             Word::Named => Ok(named(alloc)),
             Word::Json => Ok(json(alloc)),
@@ -133,6 +136,15 @@ fn done<'a>(alloc: Global) -> Result<Arg<'a>, AllocError> {
 fn no_clobber<'a>(alloc: Global) -> Result<Arg<'a>, AllocError> {
     let help = "Do nothing where something stands at OUT";
     flag(alloc, "no-clobber", 'n', help).conflicts_with("in-place")
+}
+
+fn overwrite<'a>(alloc: Global) -> Result<Arg<'a>, AllocError> {
+    let help =
+        "With -i: write changed blocks alone, into the file itself, where its data stay in place";
+    flag(alloc, "overwrite", 'o', help)
+        .requires_arg("in-place")?
+        .conflicts_with("safe")?
+        .conflicts_with("backup")
 }
 
 fn backup<'a>(alloc: Global) -> Arg<'a> {

@@ -7,13 +7,13 @@ use fits_unit::{CopyFault, DataUnit, LoadFault};
 use std::alloc::{AllocError, Global};
 
 impl Hdu {
-    ghost use Rattle.std.specs.Prelude.{◌≡◌, ◌≤◌, ◌+◌, ◌%◌, ◌<◌, ◌↔◌, ℕ, List, length, None, IfOk, IfErr, IfSome, IsOk, IsSome, IsTrue, OnOk, OnErr};
+    ghost use Rattle.std.specs.Prelude.{◌≡◌, ◌≤◌, ◌+◌, ◌%◌, ◌<◌, ◌↔◌, ℕ, List, is_some, length, None, IfOk, IfErr, IfNone, IfSome, IsOk, IsSome, IsSomeAnd, IsTrue, OnOk, OnErr};
     ghost use Rattle.fits_image.specs.Kind.{kind_in};
     ghost use Rattle.fits_stream.specs.Agree.{IsOf};
     ghost use Rattle.fits_stream.specs.Stream.{Prints};
     ghost use Rattle.fits_pixels.specs.Layout.{block_count};
     ghost use Rattle.fits_unit.specs.Again.{copied_blocks, CopyCounts, CopyFails, CopyWrites, Follows, LoadCounts, Looks, PrintsAs, ReadsRest};
-    ghost use Rattle.fits_unit.specs.DataUnit.{away_plane, is_passed, passed_blank, IsCounted, LiesIn};
+    ghost use Rattle.fits_unit.specs.DataUnit.{away_plane, holds_piece, is_passed, passed_blank, piece_of, pieces_in, place_of, IsCounted, LiesIn};
     ghost use Rattle.fits_passing.specs.Hdu.{hdu_bytes};
     ghost use Rattle.fits_passing.specs.Met.{IsMet};
     ghost use Rattle.fits_hdu.specs.State.{hdu_at, parts_of, HasPixels, IsSeen, ReadsUpTo};
@@ -43,6 +43,32 @@ impl Hdu {
         ensures { IsTrue result ↔ self.now.absent ≡ None }
     {
         self.unit.is_held()
+    }
+
+    /// Where its data unit lies in its file, if it isn't in memory.
+    pub fn place(&self) -> Option<u64>
+        ensures { result ≡ place_of self.now.absent }
+    {
+        self.unit.place()
+    }
+
+    /// How many pieces its data unit has.
+    pub fn piece_count(&self) -> usize
+        ensures { result ≡ pieces_in (length self.now.plane.bytes) }
+    {
+        self.unit.piece_count()
+    }
+
+    /// The bytes of a piece of its data unit, if it is in memory. One that isn't is as it passed by.
+    pub fn piece(&self, index: usize) -> Option<&[u8]>
+        requires { index < pieces_in (length self.now.plane.bytes) }
+        ensures value { IfSome result (λ b. b.now ≡ piece_of self.now.plane.bytes index) }
+        ensures held { is_some result ≡ holds_piece self.now.absent index }
+        ensures known { IfSome result (λ _. IsSeen self.now) }
+        ensures away { IfNone result (IsSomeAnd self.now.absent
+            (λ it. piece_of self.now.plane.bytes index ≡ piece_of it.passed index)) }
+    {
+        self.unit.piece(index)
     }
 
     /// Whether its data unit is known: it is in memory, or its bytes passed by.
