@@ -4,8 +4,8 @@ use Rattle.std.specs.Prelude.{Bool, false, if◌then◌else◌, IfSome}
 use Rattle.std.proofs.lemmas.List.{append-nil, length-append, length-drop, length-take, take-append-drop, take-take, take_all}
 use Rattle.std.proofs.Math.Seq.{take-append_seam}
 use Rattle.std.specs.List.{slice_get}
-use Rattle.fits_stream.specs.Agree.{IsOf, ReadsOn, ReadsSome}
-use Rattle.fits_stream.specs.Log.{unskipped, Adds, Grows, Logs}
+use Rattle.fits_stream.specs.Agree.{IsOf, ReadsOn}
+use Rattle.fits_stream.specs.Log.{unskipped, Adds, Logs}
 use Rattle.fits_stream.specs.Stored.{Lent, ReadLogState}
 use Rattle.fits_stream.specs.Stream.{SinkState, SourceState, FailsOnce, IsDry, Prints, PrintsFront, Reads}
 use Rattle.fits_stream.proofs.AgreeLemmas.{of_before, of_read, reads_on}

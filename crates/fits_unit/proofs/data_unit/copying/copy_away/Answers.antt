@@ -5,7 +5,7 @@ use Rattle.fits_sum.specs.Words.{word_total}
 use Rattle.fits_unit.specs.Again.{CopyFails, CopyStops}
 use Rattle.fits_unit.specs.DataUnit.{away_at, away_plane}
 use Rattle.fits_unit.proofs.AgainLemmas.{copy_fails_there, copy_follows, follows_on, read_known, read_unit, told_unit}
-use Rattle.fits_unit.proofs.data_unit.copy_away.Goals as goal
+use Rattle.fits_unit.proofs.data_unit.copying.copy_away.Goals as goal
 
 pub returns-in_err-total-clause-err : goal.returns-in_err-total-clause-err
 returns-in_err-total-clause-err g c = λ xs is lies.

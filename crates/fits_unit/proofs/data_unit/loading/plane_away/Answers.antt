@@ -2,7 +2,7 @@ use Rattle.std.proofs.Common.{◌∙◌, ap, sym}
 use Rattle.fits_sum.specs.Words.{word_total}
 use Rattle.fits_unit.specs.DataUnit.{away_at, away_plane, Absence}
 use Rattle.fits_unit.proofs.AgainLemmas.{follows_on, load_follows, read_known, read_there, told_away}
-use Rattle.fits_unit.proofs.data_unit.plane_away.Goals as goal
+use Rattle.fits_unit.proofs.data_unit.loading.plane_away.Goals as goal
 
 pub returns-in_err-bytes-clause-follows : goal.returns-in_err-bytes-clause-follows
 returns-in_err-bytes-clause-follows g c = load_follows c.args.it.now.place c.byte_len.result _ _ c.in_err-bytes.field-0.0 c.in_err-bytes.ensures.err

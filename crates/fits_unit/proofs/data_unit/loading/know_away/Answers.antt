@@ -1,7 +1,7 @@
 use Rattle.std.proofs.Common.{◌≡◌, ◌∙◌, ap, arith, length, sym, take, drop}
 use Rattle.fits_unit.specs.DataUnit.{away_at, away_plane, Absence}
 use Rattle.fits_unit.proofs.AgainLemmas.{follows_on, load_follows, read_there, told_away}
-use Rattle.fits_unit.proofs.data_unit.know_away.Goals as goal
+use Rattle.fits_unit.proofs.data_unit.loading.know_away.Goals as goal
 
 pub returns-in_err-passed-clause-follows : goal.returns-in_err-passed-clause-follows
 returns-in_err-passed-clause-follows g c = load_follows c.args.it.now.place c.byte_len.result _ _ c.in_err-passed.field-0.0 c.in_err-passed.ensures.err
