@@ -36,12 +36,6 @@ part tool nice -n 10 python3 -B .ci/edits_test.py &
 until grep -q ' proved$' "$room/proofs.log" 2>/dev/null || ! kill -0 $proofs 2>/dev/null; do sleep 1; done
 part edits nice -n 10 python3 -B .ci/edits.py ${ANEW:+--anew} --beside $proofs "$room/proofs.log" &
 edits=$!
-# The library is built once all that it stands on is proved, beside the proof of the program.
-{
-    until grep -qE '^rt: fits_c (proved|NOT PROVED)' "$room/proofs.log" || ! kill -0 $proofs 2>/dev/null; do sleep 1; done
-    part library python3 -B .ci/library.py ${ANEW:+--anew}
-} &
-library=$!
 wait $proofs
 part refused sh .ci/refuse.sh &
 refused=$!
@@ -49,14 +43,14 @@ part stored sh .ci/stored.sh &
 stored=$!
 # The rows of cases/ are run by the library too, and it has packages.
 {
-    while kill -0 $library 2>/dev/null; do sleep 1; done
+    part library python3 -B .ci/library.py ${ANEW:+--anew}
     part package python3 -B .ci/package.py &
     part cases python3 -B cases/run.py
     wait
 } &
 cases=$!
 part bench python3 -B bench/count &
-wait $! $refused $stored $library $cases $edits
+wait $! $refused $stored $cases $edits
 wait
 cat "$room/faults" "$room/clocks"
 awk '/^[0-9]+ passed, [0-9]+ failed/ { passed += $1; failed += $3; counted += 1 }

@@ -7,21 +7,14 @@ import os
 import pathlib
 import signal
 import struct
-import tempfile
 
 from again import CHANGED, apart, contents
-from fits import PIXEL, header, pixels
-from held import ALONE, BEFORE, LINE, RESULT, WRITE_FAILED, Scene, begun, calls_of, ended, merged, preloaded, run_in
+from held import ALONE, BEFORE, LINE, RESULT, WRITE_FAILED, Scene, begun, calls_of, ended, preloaded, run_in
 from one_file import BEFORE as LARGE
-from one_file import COPIED, LOADED, SCRIPTS, TAIL, THIRD
+from one_file import COPIED, LOADED, SCRIPTS
 from program import differences
 
 OVER = Scene("in its place", ("-i", "-o", "in.fits"), ALONE, "in.fits")
-
-# Another line, which changes the header of the third HDU too, and the file after both.
-OVER_TWO = Scene("two blocks of it", ("-i", "-o", "-e", "set 3 OBJECT 'M31'", "in.fits"), ALONE, "in.fits")
-THIRD_WITH_OBJECT = header(PIXEL.replace("|END", "|OBJECT  = 'M31     '|END")) + pixels(2, [7], 0)
-RESULT_OF_TWO = RESULT.removesuffix(THIRD + TAIL) + THIRD_WITH_OBJECT + TAIL
 REDO = "in.fits.fitsed-redo"
 SAVED = {"status": 0, "printed": b"", "reported": b""}
 HELD = b"fitsed: in.fits: another run has it\n"
@@ -29,15 +22,6 @@ OTHER_LINE = "set 1 EXPTIME 99.0"
 WRITTEN_SINCE = b"fitsed: in.fits: an edit was broken off, and the file was written since: in.fits.fitsed-redo has it\n"
 FOREIGN = b"fitsed: in.fits: in.fits.fitsed-redo is no file of fitsed\n"
 BROKEN_OFF = b"fitsed: in.fits: an edit was broken off: fitsed edit -i in.fits finishes it\n"
-UNREAD = b"fitsed: in.fits: the redo file beside it can't be read\n"
-
-# The calls of an edit, and of a run that finishes one that was broken off, each in their order: what is waited for before a block is
-# written, and what before the redo file goes.
-EDIT_CALLS = [
-    f"create {REDO}", f"write {REDO}", f"fsync {REDO}", "fsync .", f"write {REDO}", f"fsync {REDO}", f"write {REDO}", f"fsync {REDO}",
-    "write in.fits", "fsync in.fits", f"unlink {REDO}", "fsync .",
-]
-RECOVERY_CALLS = ["fsync .", "fsync in.fits", f"fsync {REDO}", "write in.fits", "fsync in.fits", f"unlink {REDO}", "fsync ."]
 
 # The redo file of LINE over BEFORE: a gate, the signature, the length, and its one block.
 CHANGED_BLOCK = struct.pack(">Q", 0) + BEFORE[:2880] + RESULT[:2880]
@@ -97,22 +81,13 @@ def cases():
     for name, foreign in (("cut off", redo(1)[:-1]), ("another signature", redo(1, signature=b"FITSED2"))):
         yield f"a redo file that is {name}", is_refused, ["-i", "-o"], foreign, BEFORE, FOREIGN
     yield "a shut redo file", removes
-    for name, make in UNREADABLE.items():
-        for words in (["list", "in.fits"], ["edit", "-i", "-e", LINE, "in.fits"], ["edit", "-i", "-o", "-e", LINE, "in.fits"]):
-            yield f"{words[:3]} beside a redo file that is {name}", isnt_made_use_of, words, make
-    yield "a redo file beside an OUT that is gone", isnt_saved_beside
     if preloaded():
-        yield "what is waited for, by an edit", calls_are, None, EDIT_CALLS
-        yield "what is waited for, by a run that finishes one", calls_are, redo(1), RECOVERY_CALLS
-        for scene, result in ((OVER, RESULT), (OVER_TWO, RESULT_OF_TWO)):
-            yield f"{scene.name}, killed at each call", killed, scene, result
-            for error in (errno.ENOSPC, errno.EIO):
-                yield f"{scene.name}, each call fails, {os.strerror(error)}", failing, scene, result, error
-        yield "the first of two files isn't written", ends_all
+        yield "killed at each call", killed
+        for error in (errno.ENOSPC, errno.EIO):
+            yield f"each call fails, {os.strerror(error)}", failing, error
         for options, reported in ((["-i", "-o"], HELD), (["-i"], CHANGED)):
             yield f"another run, by {options}, comes meanwhile", another_run, options, reported
-        for at in ("1 fsync in.fits", "1 create in.fits.fitsed-lock"):
-            yield f"another run ends before it is written, at {at}", ends_before, at
+        yield "another run ends before it is written", ends_before
 
 
 def stays(program, script, after):
@@ -201,9 +176,7 @@ def has_long_name(program, name):
 def beside(program, redo_file, file=BEFORE):
     """A folder with a file and a redo file, and another file."""
     with program.room({"in.fits": file, REDO: redo_file, "b.fits": BEFORE}) as room:
-        path = pathlib.Path(room)
-        (path / REDO).chmod(0o600)
-        yield path
+        yield pathlib.Path(room)
 
 
 def isnt_read(program, words):
@@ -222,55 +195,6 @@ def is_read(program, words):
         came = ended(ran)
         if came.status == 3:
             yield f"it ends with 3: {came.reported}"
-
-
-# What else may stand under the name of a redo file, and how it is made of one.
-UNREADABLE = {
-    "read by others": lambda path: path.chmod(0o604),
-    "a link": lambda path: path.rename(path.with_name("aside")) and path.symlink_to("aside"),
-    "a pipe": lambda path: path.unlink() or os.mkfifo(path, 0o600),
-    "a folder": lambda path: path.unlink() or path.mkdir(0o700),
-}
-
-
-def isnt_made_use_of(program, words, make):
-    """Where a redo file is made use of that another user may have written, or the file isn't left alone."""
-    with beside(program, redo(1)) as path:
-        make(path / REDO)
-        with begun(program, path, words) as ran:
-            came = ended(ran)
-        yield from differences(came, status=3, printed=b"")
-        if not came.reported.startswith(UNREAD) or (path / "in.fits").read_bytes() != BEFORE:
-            yield f"it tells {came.reported}, or is written"
-
-
-def isnt_saved_beside(program):
-    """Where a file is saved to a path at which nothing stands, beside the redo file of what stood there."""
-    with program.room({"b.fits": BEFORE, REDO: redo(1)}) as room:
-        path = pathlib.Path(room)
-        (path / REDO).chmod(0o600)
-        before = contents(path)
-        with begun(program, room, ["edit", "-e", LINE, "b.fits", "in.fits"]) as ran:
-            yield from apart(ended(ran), contents(path), {"status": 3, "printed": b"", "reported": BROKEN_OFF}, before)
-
-
-def calls_are(program, redo_file, wanted):
-    """Where a run waits otherwise than is wanted: each call that changes something comes once those before it are on the disk."""
-    files = ALONE if redo_file is None else {**ALONE, REDO: redo_file}
-    typed = OVER.typed if redo_file is None else ("-i", "in.fits")
-    with tempfile.TemporaryDirectory() as room:
-        path = pathlib.Path(room)
-        for name, what in files.items():
-            (path / name).write_bytes(what)
-            (path / name).chmod(0o600)
-        with begun(program, room, ["edit", "-e", LINE if redo_file is None else "off", *typed], CALLS=f"{room}/../{path.name}.calls") as ran:
-            ended(ran)
-        told = pathlib.Path(f"{room}/../{path.name}.calls")
-        calls = [line.replace(path.name, ".") for line in told.read_text(encoding="utf-8").splitlines()]
-        told.unlink()
-    from_first = calls[calls.index(wanted[0]):] if wanted[0] in calls else calls
-    if merged(from_first)[: len(wanted)] != wanted:
-        yield f"the calls are {merged(calls)}"
 
 
 def finishes(program, options):
@@ -296,14 +220,12 @@ def removes(program):
             yield from apart(ended(ran), contents(path), SAVED, {"in.fits": RESULT, "b.fits": BEFORE})
 
 
-def next_edit(program, path, result):
+def next_edit(program, path):
     """The file that the next edit finds, by each of the two ways; and where it leaves something beside it."""
     found = set()
     files = contents(path)
     for options in (["-i"], ["-i", "-o"]):
         with program.room(files) as room:
-            if REDO in files:
-                (pathlib.Path(room) / REDO).chmod(0o600)
             with begun(program, room, ["edit", *options, "-e", "off", "in.fits"]) as ran:
                 came = ended(ran)
             after = contents(pathlib.Path(room))
@@ -312,47 +234,39 @@ def next_edit(program, path, result):
             if "-o" in options and REDO in after:
                 yield f"{options}: there are {sorted(after)}"
             found.add(after["in.fits"])
-    if found not in ({BEFORE}, {result}):
+    if found not in ({BEFORE}, {RESULT}):
         yield "the next edit finds neither the old file nor the new one"
 
 
-def killed(program, scene, result):
+def killed(program):
     """Where a run that is killed at its first, second .. call leaves what the next edit makes no old or new file of."""
-    calls = calls_of(program, scene)
+    calls = calls_of(program, OVER)
     for k, call in enumerate(calls, 1):
-        with scene.laid(program) as path:
-            with begun(program, path, scene.words(), HALT=f"{k} ") as ran:
+        with OVER.laid(program) as path:
+            with begun(program, path, OVER.words(), HALT=f"{k} ") as ran:
                 os.waitid(os.P_PID, ran.pid, os.WSTOPPED | os.WEXITED | os.WNOWAIT)
                 ran.send_signal(signal.SIGKILL)
                 ended(ran)
-            for line in next_edit(program, path, result):
+            for line in next_edit(program, path):
                 yield f"killed at call {k}, {call}: {line}"
     if not any(call.startswith(f"write {REDO}") for call in calls):
         yield f"no redo file is written: {calls}"
 
 
-def failing(program, scene, result, error):
+def failing(program, error):
     """Where a run one of whose calls fails tells otherwise than what it left."""
-    for k, call in enumerate(calls_of(program, scene), 1):
-        with scene.laid(program) as path:
-            with begun(program, path, scene.words(), FAIL=f"{k} {error} once ") as ran:
+    for k, call in enumerate(calls_of(program, OVER), 1):
+        with OVER.laid(program) as path:
+            with begun(program, path, OVER.words(), FAIL=f"{k} {error} once ") as ran:
                 came = ended(ran)
             if came.status not in (0, 3):
                 yield f"call {k}, {call}: it ends with {came.status}"
-            if came.status == 0 and contents(path)["in.fits"] != result:
+            if came.status == 0 and contents(path)["in.fits"] != RESULT:
                 yield f"call {k}, {call}: it isn't saved"
             if BROKEN_OFF not in came.reported and came.status and contents(path)["in.fits"] != BEFORE:
                 yield f"call {k}, {call}: it was written, and that isn't told"
-            for line in next_edit(program, path, result):
+            for line in next_edit(program, path):
                 yield f"call {k}, {call}: {line}"
-
-
-def ends_all(program):
-    """Where a second file is edited after a write of the first failed."""
-    scene = Scene("two files", ("-i", "-o", "in.fits", "other.fits"), {**ALONE, "other.fits": BEFORE}, "in.fits")
-    _, ran, after = run_in(program, scene, FAIL=f"1 {errno.ENOSPC} write {REDO}")
-    told = b"fitsed: in.fits: write failed\n"
-    yield from apart(ran, after, {"status": 3, "printed": b"", "reported": told}, scene.files)
 
 
 def another_run(program, options, reported):
@@ -369,7 +283,7 @@ def another_run(program, options, reported):
         yield from differences(other, status=3, printed=b"", reported=reported)
 
 
-def ends_before(program, at):
+def ends_before(program):
     """Where a run writes its blocks into a file that another replaced meanwhile, and ends with 0."""
 
     def act(path):
@@ -378,7 +292,7 @@ def ends_before(program, at):
             left.update(contents(path))
 
     told, left = [], {}
-    _, ran, after = run_in(program, OVER, act=act, HALT=at)
+    _, ran, after = run_in(program, OVER, act=act, HALT="1 create in.fits.fitsed-lock")
     yield from apart(ran, after, {"status": 3, "printed": b"", "reported": CHANGED}, left)
     for other in told:
         yield from differences(other, **SAVED)

@@ -186,23 +186,37 @@ kept_decides ow v w n shift xs ys b p q means = subst (λ zs. b ≡ can_store_ru
 pub run_made_none : (w : ℕ) (zs : List ℤ) (len : ℕ) (b : Bool) → b ≡ false → b ≡ can_store_run w zs → None ≡ run_made w zs len
 run_made_none w zs len b fails e = sym (cond-false _ _ _ (sym e ∙ fails))
 
--- zero bytes in which the kept pixels were stored
+-- each kept number can be stored where the test says so
+pub kept_storable : (ow w n : ℕ) (shift : ℤ) (xs : List ℕ) → can_store_run w (kept_numbers ow xs n shift) ≡ true → (x : ℕ) → x < n → IsStorable w (pixel ow xs x +ℤ shift)
+kept_storable ow w n shift xs e x b =
+    let near : x < length (kept_numbers ow xs n shift) = omega (arith, b, length-kept_numbers ow n shift xs) in
+    subst (IsStorable w) (kept_numbers-at ow n x shift xs b) ((can_store_run_decides w (kept_numbers ow xs n shift)).0 e x near)
+
+-- zero bytes in which the kept pixels were stored are those that are written
+pub run_stored : (ow w n len : ℕ) (shift : ℤ) (xs blank made : List ℕ) → IsWidth w → n * w ≤ len → blank ≡ replicate len 0 → length made ≡ length blank
+    → ((x : ℕ) → x < n → pixel w made x ≡ pixel ow xs x +ℤ shift) → ((j : ℕ) → n * w ≤ j → slice_index made j ≡ slice_index blank j)
+    → ((k : ℕ) → slice_index made k < 256) → made ≡ run_written w (kept_numbers ow xs n shift) len
+run_stored ow w n len shift xs blank made h room zeros long inside outside small =
+    let numbers : List ℤ = kept_numbers ow xs n shift in
+    let many : length numbers ≡ n = length-kept_numbers ow n shift xs in
+    let turn = ap (λ m. m * w) many in
+    run_is w numbers len made h (omega (arith, turn, room)) small (record {
+      long = long ∙ ap length zeros ∙ length-replicate {A = ℕ} len 0;
+      inside = λ i c. let near : i < n = omega (arith, c, many) in inside i near ∙ sym (kept_numbers-at ow n i shift xs near);
+      outside = λ j c. outside j (omega (arith, turn, c)) ∙ ap (λ zs. slice_index zs j) zeros ∙ zero_byte len j;
+    })
+
+-- the same of a run that may not have passed
 pub run_made_some : (ow v w n len : ℕ) (shift : ℤ) (xs ys blank new made : List ℕ) (b : Bool) → ow ≡ v → xs ≡ ys → IsWidth w → n * w ≤ len
     → b ≡ true → b ≡ can_store_run w (kept_numbers v ys n shift) → blank ≡ replicate len 0 → length new ≡ length blank
     → ((x : ℕ) → x < n → pixel w new x ≡ pixel ow xs x +ℤ shift) → ((j : ℕ) → n * w ≤ j → slice_index new j ≡ slice_index blank j)
     → made ≡ new → ((k : ℕ) → slice_index made k < 256)
     → Some made ≡ run_made w (kept_numbers v ys n shift) len
 run_made_some ow v w n len shift xs ys blank new made b p q h room passes e zeros long inside outside same small =
-    let numbers : List ℤ = kept_numbers v ys n shift in
-    let many : length numbers ≡ n = length-kept_numbers v n shift ys in
-    let turn = ap (λ m. m * w) many in
-    let is : made ≡ run_written w numbers len = run_is w numbers len made h (omega (arith, turn, room)) small (record {
-      long = ap length same ∙ long ∙ ap length zeros ∙ length-replicate {A = ℕ} len 0;
-      inside = λ i c.
-          let near : i < n = omega (arith, c, many) in
-          ap (λ zs. pixel w zs i) same ∙ inside i near ∙ ap (λ zs. pixel ow zs i +ℤ shift) q ∙ ap (λ m. pixel m ys i +ℤ shift) p ∙ sym (kept_numbers-at v n i shift ys near);
-      outside = λ j c. ap (λ zs. slice_index zs j) same ∙ outside j (omega (arith, turn, c)) ∙ ap (λ zs. slice_index zs j) zeros ∙ zero_byte len j;
-    }) in
+    let is : made ≡ run_written w (kept_numbers v ys n shift) len =
+    run_stored v w n len shift ys blank made h room zeros (ap length same ∙ long)
+    (λ x c. ap (λ zs. pixel w zs x) same ∙ inside x c ∙ ap (λ zs. pixel ow zs x +ℤ shift) q ∙ ap (λ m. pixel m ys x +ℤ shift) p)
+    (λ j c. ap (λ zs. slice_index zs j) same ∙ outside j c) small in
     ap Some is ∙ sym (cond-true _ _ _ (sym e ∙ passes))
 
 -- the first x pixels are stored

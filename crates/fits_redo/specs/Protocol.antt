@@ -15,7 +15,7 @@ use Rattle.fits_redo.specs.declared.redo_fault.RedoFault.TheVariants as fault
 abbrev pub IsEither : List ℕ → List ℕ → Files → Type 0
 IsEither old new c = (recovered c ≡ old) ⊎ (recovered c ≡ new)
 
--- the file wasn't touched, and the next edit makes the old file of what stands there, or the new one
+-- the same, and the file wasn't touched
 pub record IsStaged (old new : List ℕ) (c : Files) : Type 0 where
   pub file : c.file ≡ old
   pub either : IsEither old new c
@@ -47,12 +47,6 @@ HasCause other is_read failed = Unit {0}
 abbrev pub recovery_of : Option (List ℕ) → Recovery
 recovery_of None = Nothing
 recovery_of (Some bytes) = if is_open bytes then Finished else Removed
-
--- what a fault leaves that comes before anything is changed: what stood there
-abbrev pub IsUntouched : RedoFault → Type 0 → Type 0
-IsUntouched (fault.Failed _) StandsStill = Unit {0}
-IsUntouched (fault.InPart _) StandsStill = Unit {0}
-IsUntouched other StandsStill = StandsStill
 
 -- the fault of an edit that is made in part
 abbrev pub IsPart : RedoFault → Type 0

@@ -3,7 +3,7 @@ ghost use Rattle.std.specs.Prelude.{◌≡◌, ◌⊎◌, ◌≤◌, ◌+◌, �
 ghost use Rattle.fits_redo.specs.Pair.{Files, LeavesOnly, Rests};
 ghost use Rattle.fits_redo.specs.Plan as plans;
 ghost use Rattle.fits_redo.specs.Plan.{redone};
-ghost use Rattle.fits_redo.specs.Protocol.{HasCause, IsUnfinished, IsUnfinishedOrDone, IsEither, IsPart, IsRedoOf, IsUntouched};
+ghost use Rattle.fits_redo.specs.Protocol.{HasCause, IsUnfinished, IsUnfinishedOrDone, IsEither, IsPart, IsRedoOf};
 ghost use Rattle.fits_redo.specs.declared.redo.Redo.{Redo};
 ghost use Rattle.fits_redo.specs.Redo.{recovered};
 
@@ -35,8 +35,6 @@ pub fn overwrite<P: Pair>(alloc: Global, pair: &mut P, plan: &Plan) -> Result<()
     ensures changed { (f : Files) → P.stands pair.old f → IsErrOf result RedoFault.Changed
         → plans.agrees plan.now.len plan.now.blocks.items f.file ≡ false }
     ensures foreign { IsErrOf result RedoFault.Foreign → ⊥ }
-    ensures untouched { (f : Files) → P.stands pair.old f
-        → IfErr result (λ fault. IsUntouched fault (P.stands pair.new f)) }
     ensures cause { IfErr result (λ fault. HasCause fault (P.is_read pair.old) (P.failed pair.new)) }
     ensures in_part { (f : Files) → P.stands pair.old f → f.redo ≡ None
         → IfErr result (λ fault. IsPart fault → (c : Files) → P.may_leave pair.new c
@@ -69,8 +67,6 @@ pub(crate) fn resume<P: Pair>(pair: &mut P, plan: &Plan) -> Result<(), RedoFault
     ensures changed { (f : Files) → P.stands pair.old f → IsErrOf result RedoFault.Changed
         → plans.agrees plan.now.len plan.now.blocks.items f.file ≡ false }
     ensures foreign { IsErrOf result RedoFault.Foreign → ⊥ }
-    ensures untouched { (f : Files) → P.stands pair.old f
-        → IfErr result (λ fault. IsUntouched fault (P.stands pair.new f)) }
     ensures cause { IfErr result (λ fault. HasCause fault (P.is_read pair.old) (P.failed pair.new)) }
     ensures in_part { (f : Files) (bytes : List ℕ) → P.stands pair.old f → f.redo ≡ Some bytes
         → IsRedoOf bytes (Redo.Open plan.now) → IfErr result (λ fault. IsPart fault
@@ -86,7 +82,6 @@ fn begin<P: Pair>(pair: &mut P, len: u64, blocks: &[ChangedBlock]) -> Result<(),
     ensures any_moment { LeavesOnly P.moment P.left_since pair.old pair.new (P.may_leave pair.old) }
     ensures ok { (f : Files) → P.stands pair.old f
         → OnOk result (Rests P.stands P.may_leave pair.new f) }
-    ensures untouched { (f : Files) → P.stands pair.old f → P.stands pair.new f }
     ensures agrees { (f : Files) → P.stands pair.old f
         → OnOk result (plans.agrees len blocks.now f.file ≡ true) }
     ensures changed { (f : Files) → P.stands pair.old f → IsErrOf result RedoFault.Changed

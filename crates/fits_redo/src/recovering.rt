@@ -2,7 +2,7 @@
 ghost use Rattle.std.specs.Prelude.{◌≡◌, ◌⊎◌, ◌≤◌, ◌+◌, ◌&&◌, true, false, List, ℕ, length, None, Some, IfErr, IfOk, IsErrOf, OnOk};
 ghost use Rattle.fits_redo.specs.Pair.{Files, LeavesOnly, Rests};
 ghost use Rattle.fits_redo.specs.Plan as plans;
-ghost use Rattle.fits_redo.specs.Protocol.{HasCause, IsPart, IsUntouched, recovery_of};
+ghost use Rattle.fits_redo.specs.Protocol.{HasCause, IsPart, recovery_of};
 ghost use Rattle.fits_redo.specs.Redo as redo;
 ghost use Rattle.fits_redo.specs.Redo.{recovered};
 
@@ -35,8 +35,6 @@ pub fn recover<P: Pair>(alloc: Global, pair: &mut P) -> Result<Recovery, RedoFau
     ensures changed { (f : Files) (bytes : List ℕ) → P.stands pair.old f → f.redo ≡ Some bytes
         → IsErrOf result RedoFault.Changed
         → plans.agrees (redo.told_len bytes) (redo.told bytes) f.file ≡ false }
-    ensures untouched { (f : Files) → P.stands pair.old f
-        → IfErr result (λ fault. IsUntouched fault (P.stands pair.new f)) }
     ensures cause { IfErr result (λ fault. HasCause fault (P.is_read pair.old) (P.failed pair.new)) }
     ensures in_part { (f : Files) → P.stands pair.old f → IfErr result (λ fault. IsPart fault
         → (c : Files) → P.may_leave pair.new c → recovered c ≡ recovered f) }
@@ -67,8 +65,6 @@ fn act_on<P: Pair>(alloc: Global, pair: &mut P, bytes: &[u8]) -> Result<Recovery
         → (redo.is_shut bytes.now ≡ false) × ((redo.is_open bytes.now && redo.is_whole bytes.now) ≡ false) }
     ensures changed { (f : Files) → P.stands pair.old f → IsErrOf result RedoFault.Changed
         → plans.agrees (redo.told_len bytes.now) (redo.told bytes.now) f.file ≡ false }
-    ensures untouched { (f : Files) → P.stands pair.old f
-        → IfErr result (λ fault. IsUntouched fault (P.stands pair.new f)) }
     ensures cause { IfErr result (λ fault. HasCause fault (P.is_read pair.old) (P.failed pair.new)) }
     ensures in_part { (f : Files) → Rests P.stands P.may_leave pair.old f → f.redo ≡ Some bytes.now
         → IfErr result (λ fault. IsPart fault

@@ -34,7 +34,7 @@ pub(crate) fn read_redo(alloc: Global, bytes: &[u8]) -> Result<Redo, AllocError>
     ensures { IfOk result (λ found. IsRedoOf bytes.now found) }
 {
     if !is_open(bytes) {
-        return Ok(if may_be_ours(bytes) {
+        return Ok(if is_cut_off(bytes) {
             Redo::Shut
         } else {
             Redo::Foreign
@@ -71,8 +71,8 @@ pub fn is_open(bytes: &[u8]) -> bool
     front == OPENED.as_slice()
 }
 
-// Whether bytes whose gate isn't open are those of a redo file, or too few to tell.
-fn may_be_ours(bytes: &[u8]) -> bool
+// Whether bytes whose gate isn't open are those of a redo file, or may be.
+fn is_cut_off(bytes: &[u8]) -> bool
     ensures { result ≡ (nat_le (length bytes.now) 24
         || bytes_eq (take 7 (drop 1 bytes.now)) signature) }
 {

@@ -15,8 +15,7 @@ pub enum RedoFault {
     Foreign,
     /// A read failed; nothing was written.
     Unread(io::Error),
-    /// Another call failed; the file is as it was. Where the redo file couldn't be removed then, the
-    /// next edit may make this one.
+    /// Another call failed; the file is as it was.
     Failed(io::Error),
     /// A call failed while the file was written: the redo file stands beside it, and the next edit
     /// finishes this one.

@@ -5,7 +5,7 @@ use crate::pair::Pair;
 use crate::read_fault::ReadFault;
 use crate::redo::is_open;
 use std::alloc::{AllocError, Global};
-use std::fs::{File, Metadata, OpenOptions, TryLockError};
+use std::fs::{File, OpenOptions, TryLockError};
 use std::io::{ErrorKind, Read, Write};
 use std::os::unix::fs::{FileExt, MetadataExt, OpenOptionsExt};
 use std::rt::Files;
@@ -22,6 +22,7 @@ pub struct System<'a, R: Files<File = File>> {
     redo_name: String,
     /// The folder of both.
     folder: String,
+    /// What may not have reached the disk.
     waits: Waits,
     failed: bool,
 }
@@ -30,7 +31,6 @@ pub struct System<'a, R: Files<File = File>> {
 #[derive(Clone, Copy)]
 struct Waits {
     file: bool,
-    /// The redo file that was made, or one that another run left.
     redo: bool,
     names: bool,
 }
@@ -53,24 +53,21 @@ impl<'a, R: Files<File = File> + AllocGlobal> System<'a, R> {
             return Err(OpenFault::Failed(io::Error::from(ErrorKind::Unsupported)));
         }
         // Another run may have given the path to another file meanwhile.
-        if !is_of(&file, &fs::metadata(rt, name.as_str())?)? {
+        if !stands(rt, name.as_str(), &file)? {
             return Err(OpenFault::Busy);
         }
         let redo_name = redo_name(alloc, name.as_str())?;
         test_name(rt, redo_name.as_str())?;
-        // A folder that can't be waited for is met here, before anything is written.
-        let folder = folder_of(alloc, name.as_str())?;
-        fs::open(rt, folder.as_str())?.sync_all()?;
         Ok(System {
             rt,
             file,
             redo: None,
             redo_name,
-            folder,
+            folder: folder_of(alloc, name.as_str())?,
             waits: Waits {
                 file: true,
-                redo: true,
-                names: false,
+                redo: false,
+                names: true,
             },
             failed: false,
         })
@@ -82,25 +79,15 @@ impl<R: Files<File = File>> System<'_, R> {
     pub fn file(&self) -> &File {
         &self.file
     }
-
-    /// The name at which its redo file stands, if one does.
-    pub fn redo_name(&self) -> &str {
-        self.redo_name.as_str()
-    }
-
-    /// Whether it has no other name. By another one nobody would look for its redo file.
-    pub fn has_one_name(&self) -> bool {
-        matches!(self.file.metadata(), Ok(about) if about.nlink() == 1)
-    }
 }
 
-/// Whether an edit of the file at a path was broken off after it may have touched it. Where no file can
-/// be reached there, what stands beside the path itself tells. `Err` is that the redo file can't be
-/// read.
+/// Whether an edit of the file at a path was broken off after it may have touched it.
 pub fn is_broken_off<R: Files<File = File> + AllocGlobal>(rt: &R, path: &str) -> io::Result<bool> {
-    let redo_name = redo_name_at(rt, path)?;
-    let Some(redo) = open_redo(rt, redo_name.as_str())? else {
-        return Ok(false);
+    let name = real_name(rt, path)?;
+    let redo = match fs::open(rt, redo_name(rt.alloc(), name.as_str())?.as_str()) {
+        Ok(redo) => redo,
+        Err(error) if error.kind() == ErrorKind::NotFound => return Ok(false),
+        Err(error) => return Err(error),
     };
     let mut front = [0; 25];
     match redo.read_exact_at(&mut front, 0) {
@@ -110,65 +97,15 @@ pub fn is_broken_off<R: Files<File = File> + AllocGlobal>(rt: &R, path: &str) ->
     }
 }
 
-// The name of the file at a path: where a link leads, and else the path itself.
+// Where a path leads, behind any links.
 fn real_name<R: Files<File = File> + AllocGlobal>(rt: &R, path: &str) -> io::Result<String> {
-    let alloc = rt.alloc();
-    if !is_link(rt, path) {
-        return Ok(String::from_str(alloc, path)?);
-    }
     let real = fs::canonicalize(rt, path)?;
-    Ok(String::from_str(alloc, real.as_str())?)
-}
-
-fn is_link<R: Files<File = File>>(rt: &R, path: &str) -> bool {
-    matches!(fs::symlink_metadata(rt, path), Ok(about) if about.is_symlink())
-}
-
-// The name of the redo file of what stands at a path, or where that can't be reached, of the path.
-fn redo_name_at<R: Files<File = File> + AllocGlobal>(rt: &R, path: &str) -> io::Result<String> {
-    let alloc = rt.alloc();
-    if is_link(rt, path) {
-        if let Ok(real) = fs::canonicalize(rt, path) {
-            return Ok(redo_name(alloc, real.as_str())?);
-        }
-    }
-    Ok(redo_name(alloc, path)?)
+    Ok(format!(in rt.alloc(); "{}", real.as_str())?)
 }
 
 // The name of the redo file of a file.
 fn redo_name(alloc: Global, name: &str) -> Result<String, AllocError> {
-    let ending = ".fitsed-redo";
-    let mut redo_name = String::with_capacity(alloc, name.len().saturating_add(ending.len()))?;
-    redo_name.push_str(name)?;
-    redo_name.push_str(ending)?;
-    Ok(redo_name)
-}
-
-// The redo file under a name, if one stands there. It's a regular file that no other user reads or
-// writes, as a run makes it: so nobody else wrote it.
-fn open_redo<R: Files<File = File>>(rt: &R, name: &str) -> io::Result<Option<File>> {
-    let about = match fs::symlink_metadata(rt, name) {
-        Ok(about) => about,
-        Err(error) => {
-            return match error.kind() {
-                // None can stand beside a path that leads nowhere, or one whose name leaves no room; in a
-                // folder that can't be looked into no file is reached either.
-                ErrorKind::NotFound
-                | ErrorKind::NotADirectory
-                | ErrorKind::InvalidFilename
-                | ErrorKind::PermissionDenied => Ok(None),
-                _ => Err(error),
-            };
-        }
-    };
-    if !about.is_file() || about.mode() & 0o077 != 0 {
-        return Err(io::Error::from(ErrorKind::InvalidData));
-    }
-    let redo = fs::open(rt, name)?;
-    if !is_of(&redo, &about)? {
-        return Err(io::Error::from(ErrorKind::InvalidData));
-    }
-    Ok(Some(redo))
+    Ok(format!(in alloc; "{name}.fitsed-redo")?)
 }
 
 // Whether a file may stand under a name, one that does or not: the system refuses one that is too long.
@@ -179,19 +116,19 @@ fn test_name<R: Files<File = File>>(rt: &R, name: &str) -> io::Result<()> {
     }
 }
 
-// The folder of a file.
+// The folder of a file whose name begins at the root.
 fn folder_of(alloc: Global, name: &str) -> Result<String, AllocError> {
     let folder = match name.rfind('/') {
         Some(slash) => name.get(..slash).unwrap_or(""),
-        None => ".",
+        None => "",
     };
     Ok(format!(in alloc; "{folder}/")?)
 }
 
-// Whether this is said of a file that is open.
-fn is_of(file: &File, about: &Metadata) -> io::Result<bool> {
-    let held = file.metadata()?;
-    Ok(held.dev() == about.dev() && held.ino() == about.ino())
+// Whether this file stands under a name.
+fn stands<R: Files<File = File>>(rt: &R, name: &str, file: &File) -> io::Result<bool> {
+    let (held, there) = (file.metadata()?, fs::metadata(rt, name)?);
+    Ok(held.dev() == there.dev() && held.ino() == there.ino())
 }
 
 // The byte at which a block begins.
@@ -216,13 +153,11 @@ impl<R: Files<File = File>> System<'_, R> {
         done
     }
 
-    fn read_all(&self, alloc: Global) -> io::Result<Option<Vec<u8>>> {
-        let Some(mut redo) = open_redo(self.rt, self.redo_name.as_str())? else {
-            return Ok(None);
-        };
+    fn read_all(&self, alloc: Global) -> io::Result<Vec<u8>> {
+        let mut redo = fs::open(self.rt, self.redo_name.as_str())?;
         let mut bytes = Vec::new(alloc);
         redo.read_to_end(&mut bytes)?;
-        Ok(Some(bytes))
+        Ok(bytes)
     }
 
     fn sync(&mut self) -> io::Result<()>
@@ -232,8 +167,8 @@ impl<R: Files<File = File>> System<'_, R> {
             self.file.sync_all()?;
             self.waits.file = false;
         }
-        if self.waits.redo {
-            self.sync_redo()?;
+        if let (true, Some(redo)) = (self.waits.redo, &self.redo) {
+            redo.sync_all()?;
             self.waits.redo = false;
         }
         if self.waits.names {
@@ -241,18 +176,6 @@ impl<R: Files<File = File>> System<'_, R> {
             self.waits.names = false;
         }
         Ok(())
-    }
-
-    // A redo file that another run left counts only once it is on the disk: that run may have been
-    // killed while it waited for that.
-    fn sync_redo(&self) -> io::Result<()> {
-        if let Some(redo) = &self.redo {
-            return redo.sync_all();
-        }
-        match open_redo(self.rt, self.redo_name.as_str())? {
-            Some(redo) => redo.sync_all(),
-            None => Ok(()),
-        }
     }
 
     fn make(&mut self, head: &[u8]) -> io::Result<()>
@@ -345,8 +268,9 @@ impl<R: Files<File = File>> Pair for System<'_, R> {
 
     fn read_redo(&self, alloc: Global) -> Result<Option<Vec<u8>>, ReadFault> {
         match self.read_all(alloc) {
-            Ok(found) => Ok(found),
+            Ok(bytes) => Ok(Some(bytes)),
             Err(error) => match error.kind() {
+                ErrorKind::NotFound => Ok(None),
                 ErrorKind::OutOfMemory => Err(ReadFault::Memory),
                 _ => Err(ReadFault::Failed(error)),
             },

@@ -15,8 +15,7 @@ stay_from start [] = true
 stay_from start (one ∷ hdus) =
     lies_at (start + length (header_bytes one.header.header)) one.absent && stay_from (start + length (hdu_bytes (parts_of one))) hdus
 
--- a file of so many bytes would stay as long if this session were saved, and each data unit of which not all is in memory would be saved where
--- it lies
+-- so would each of a session, and a file of so many bytes would stay as long
 abbrev pub stays_in_place : ℕ → SessionState → Bool
 stays_in_place len session = (length (file_bytes (file_of session)) == len) && stay_from 0 session.hdus
 

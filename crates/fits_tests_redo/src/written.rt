@@ -3,9 +3,7 @@
 use crate::files::{HEAD, NEW, OLD, file_of, plan_of, redo_of};
 use fits_redo::{OpenFault, Recovery, RedoFault, System, is_broken_off, overwrite, recover};
 use std::fs;
-use std::fs::{File, OpenOptions};
-use std::io::Write;
-use std::os::unix::fs::OpenOptionsExt;
+use std::fs::File;
 use std::process::Abort;
 use std::rt::Files;
 use std::test::Fail;
@@ -48,12 +46,7 @@ fn a_broken_edit_is_seen_and_finished(rt: HostRuntime) -> Result<(), Fail> {
     let alloc = rt.alloc();
     let (file, redo) = ("broken_off.fits", "broken_off.fits.fitsed-redo");
     fs::write(&rt, file, file_of(alloc, OLD)?.as_slice())?;
-    let mut made = OpenOptions::new()
-        .write(true)
-        .create_new(true)
-        .mode(0o600)
-        .open(&rt, redo)?;
-    made.write_all(redo_of(alloc, &HEAD)?.as_slice())?;
+    fs::write(&rt, redo, redo_of(alloc, &HEAD)?.as_slice())?;
     assert!(rt; is_broken_off(&rt, file)?);
     let Ok(mut pair) = System::open(&rt, file) else {
         assert!(rt; false);

@@ -47,6 +47,10 @@ part_of place blank it = record { plane = blanked blank it.plane; place = place;
 abbrev pub part_at : PartState → Absence
 part_at it = record { place = it.place; known = true; blank = it.blank; passed = it.passed; held = it.held }
 
+-- one of which pieces are in memory, as a data unit
+abbrev pub part_state : PartState → UnitState
+part_state it = record { plane = it.plane; absent = Some (part_at it) }
+
 -- its bytes are known: it is in memory, or they passed by
 abbrev pub IsKnown : Option Absence → Type 0
 IsKnown absent = IfSome absent (λ it. it.known ≡ true)
@@ -81,6 +85,10 @@ holds_piece (Some it) index = get_or it.held index false
 abbrev pub unit_at : List ℕ → List ℕ → Option Absence → List ℕ
 unit_at told unit None = unit
 unit_at told unit (Some it) = if it.known then unit else take (length unit) (drop it.place told)
+
+-- those of one that says so
+abbrev pub unit_in : List ℕ → UnitState → List ℕ
+unit_in told it = unit_at told it.plane.bytes it.absent
 
 -- a file of these bytes has one at its place that is as long, and, where it is known, what passed by
 pub record Lies (told unit : List ℕ) (it : Absence) : Type 0 where

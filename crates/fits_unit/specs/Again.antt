@@ -1,5 +1,5 @@
 -- Bytes of a stored file that are read again (own).
-use Rattle.std.specs.Prelude.{◌≡◌, ◌<◌, ◌≤◌, ℕ, ◌+◌, Bool, false, true, List, [], ◌∷◌, ◌++◌, drop, length, take, Option, None, Some, MatchOption}
+use Rattle.std.specs.Prelude.{◌≡◌, ◌<◌, ◌≤◌, ℕ, ◌+◌, Bool, false, true, List, [], ◌∷◌, ◌++◌, drop, length, take, Option, None, Some, Result, IfErr, MatchOption}
 use Rattle.fits_stream.specs.Agree.{EndsAt, IsOf, ReadsOn, ReadsShort, ReadsSome}
 use Rattle.fits_stream.specs.Log.{Grows, IsEnded, Logs}
 use Rattle.fits_stream.specs.Stored.{ReadLogState}
@@ -7,7 +7,7 @@ use Rattle.fits_stream.specs.Stream.{SinkState, SourceState, Prints, PrintsFront
 use Rattle.fits_sum.specs.Words.{word_total}
 use Rattle.fits_pieces.specs.Pieces.{away_blocks}
 use Rattle.fits_plane.specs.Plane.{PlaneState}
-use Rattle.fits_unit.specs.Absence.{Absence, IsKnown}
+use Rattle.fits_unit.specs.Absence.{Absence, IsKnown, LiesIn, UnitState}
 use Rattle.fits_unit.specs.declared.again.CopyFault.{CopyFault}
 use Rattle.fits_unit.specs.declared.again.CopyFault.TheVariants.{Failed, Changed, Write}
 use Rattle.fits_unit.specs.declared.again.LoadFault.{LoadFault}
@@ -16,6 +16,14 @@ use Rattle.fits_unit.specs.declared.again.LoadFault.TheVariants as load
 -- reads go on: a file of which the later ones may be is one of which the earlier ones may be
 abbrev pub Follows : ReadLogState → ReadLogState → Type 0
 Follows old new = (bytes : List ℕ) → IsOf bytes new → IsOf bytes old
+
+-- so it is whatever file the reads may be of in which a data unit lies, where not all of it is in memory
+abbrev pub InEachFile : ReadLogState → UnitState → (List ℕ → Type 0) → Type 0
+InEachFile log it IsSo = (told : List ℕ) → IsOf told log → LiesIn told it.plane it.absent → IsSo told
+
+-- the file isn't said to have changed
+abbrev pub IsUnchanged : {A : Type 0} → Result A LoadFault → Type 0
+IsUnchanged result = IfErr result (λ why. why ≡ load.Changed → ⊥)
 
 -- why bytes weren't read from a place on: memory was refused, a read failed, or fewer came
 abbrev pub LoadStops : ℕ → ℕ → ReadLogState → ReadLogState → LoadFault → Type 0

@@ -3,7 +3,7 @@ use Rattle.std.specs.Prelude.{ℕ, ℤ, Bool, true, false, if◌then◌else◌, 
 use Rattle.fits_pixels.specs.Layout.{block_count}
 use Rattle.fits_plane.specs.Plane.{PlaneState}
 pub use Rattle.fits_pieces.specs.Piece.{piece_of, pieces_in}
-pub use Rattle.fits_unit.specs.Absence.{blanked, holds_piece, part_at, part_of, unit_at, Absence, Counts, HasRectangle, Holds, IsAway, IsCounted, IsKnown, IsPart, Lies, LiesIn, PartState, UnitState}
+pub use Rattle.fits_unit.specs.Absence.{blanked, holds_piece, part_at, part_of, part_state, unit_at, unit_in, Absence, Counts, HasRectangle, Holds, IsAway, IsCounted, IsKnown, IsPart, Lies, LiesIn, PartState, UnitState}
 use Rattle.fits_unit.specs.declared.absent.Absent.{Absent}
 use Rattle.fits_unit.specs.declared.absent.Absent.TheVariants.{Away, InPart}
 use Rattle.fits_unit.specs.declared.away_unit.AwayUnit.{AwayUnit}
@@ -28,6 +28,10 @@ passed_blank (Unread it) = None
 abbrev pub away_at : ℕ → AwayUnit → Absence
 away_at place it = record { place = place; known = is_passed it; blank = passed_blank it; passed = (away_plane it).bytes; held = [] }
 
+-- it, as a data unit
+abbrev pub away_state : ℕ → AwayUnit → UnitState
+away_state place it = record { plane = away_plane it; absent = Some (away_at place it) }
+
 -- what is in memory of a unit, or what is known
 abbrev pub absent_plane : Absent → PlaneState
 absent_plane (Away it) = away_plane it.unit
@@ -41,6 +45,10 @@ plane_of plane (Some it) = absent_plane it
 abbrev pub lies_at : Absent → Absence
 lies_at (Away it) = away_at it.place it.unit
 lies_at (InPart it) = part_at it
+
+-- it, as a data unit
+abbrev pub absent_state : Absent → UnitState
+absent_state it = record { plane = absent_plane it; absent = Some (lies_at it) }
 
 abbrev pub absence_of : Option Absent → Option Absence
 absence_of None = None

@@ -1,6 +1,6 @@
 -- A data unit of which some pieces are in memory: its bytes had of there and of its file, and pieces that come into memory (own).
-use Rattle.std.specs.Prelude.{◌≡◌, ◌≤◌, ◌<◌, ℕ, ◌+◌, ◌-◌, ◌*◌, ◌/◌, ◌^◌, ◌++◌, Bool, false, true, if◌then◌else◌, not, count_by, min, List, [], Option, None, Some, get_or, length}
-use Rattle.fits_stream.specs.Agree.{ReadsOn}
+use Rattle.std.specs.Prelude.{◌≡◌, ◌≤◌, ◌<◌, ℕ, ◌+◌, ◌-◌, ◌*◌, ◌/◌, ◌^◌, ◌++◌, Bool, false, true, if◌then◌else◌, not, count_by, drop, min, take, List, [], Option, None, Some, get_or, length}
+use Rattle.fits_stream.specs.Agree.{IsOf, ReadsOn}
 use Rattle.fits_stream.specs.Stored.{ReadLogState}
 use Rattle.fits_stream.specs.Stream.{SinkState, Prints}
 use Rattle.fits_sum.specs.Words.{word_total}
@@ -42,6 +42,16 @@ pub record ReadsPiece (place j : ℕ) (it : PiecedState) (log log' : ReadLogStat
 -- how many of its pieces aren't in memory
 abbrev pub away_pieces : List Bool → ℕ
 away_pieces held = count_by not held
+
+-- so it is whatever file the reads may be of that has at a place what passed by of such a unit
+abbrev pub WherePassed : ReadLogState → ℕ → PiecedState → Type 0 → Type 0
+WherePassed log place it IsSo =
+    (told : List ℕ) → IsOf told log → take (length it.plane.bytes) (drop place told) ≡ it.passed → IsSo
+
+-- the same of one that says its place
+abbrev pub WherePartPassed : ReadLogState → PartState → Type 0 → Type 0
+WherePartPassed log it IsSo =
+    (told : List ℕ) → IsOf told log → take (length it.plane.bytes) (drop it.place told) ≡ it.passed → IsSo
 
 -- pieces of it came into memory: it is as long, with the same total, and read so; each of their blocks was scanned once, and each node
 -- above them joined once

@@ -15,7 +15,8 @@ pub enum AwayUnit {
 }
 
 impl AwayUnit {
-    ghost use Rattle.std.specs.Prelude.{◌≡◌, ◌↔◌, length, IsTrue};
+    ghost use Rattle.std.specs.Prelude.{◌≡◌, ◌↔◌, false, true, length, IsTrue};
+    ghost use Rattle.fits_sum.specs.Words.{word_total};
     ghost use Rattle.fits_pixels.specs.Layout.{IsLayout};
     ghost use Rattle.fits_unit.specs.DataUnit.{away_plane, blanked, is_passed, passed_blank, passed_blocks};
 
@@ -46,6 +47,19 @@ impl AwayUnit {
         ensures { result ≡ is_passed self.now }
     {
         matches!(self, AwayUnit::Passed(_))
+    }
+
+    /// Whether it is known, and has another total than this.
+    pub(crate) fn has_another_total(&self, total: u64) -> bool
+        ensures known { IsTrue result → is_passed self.now ≡ true }
+        ensures other { IsTrue result → total ≡ word_total (away_plane self.now).bytes → ⊥ }
+        ensures same { result ≡ false → is_passed self.now ≡ true
+            → total ≡ word_total (away_plane self.now).bytes }
+    {
+        match self {
+            AwayUnit::Passed(it) => it.total() != total,
+            AwayUnit::Unread(_) => false,
+        }
     }
 
     /// Makes this the stored number of undefined pixels. Its bytes aren't looked at.

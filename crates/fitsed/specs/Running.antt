@@ -118,7 +118,7 @@ pub record EditsNothing (script script' : SourceState) (out out' : SinkState) (e
 abbrev pub Edits : SavingTerms → SourceState → SourceState → SinkState → SinkState → Result Edited Fault → Type 0
 Edits asked script script' out out' ended = EditsFile asked script script' out out' ended ⊎ EditsNothing script script' out out' ended
 
--- a file that may be changed in its place is edited while it is held, or as any other is, or it isn't edited
+-- so it is where it may be changed in its place: it is held, or edited as any other
 abbrev pub EditsSo : SavingTerms → SourceState → SourceState → SinkState → SinkState → Result Edited Fault → Type 0
 EditsSo asked script script' out out' ended = EditsHeld asked script script' out out' ended ⊎ Edits asked script script' out out' ended
 

@@ -8,8 +8,6 @@ use Rattle.fits_cli.specs.declared.edited.Edited.{Edited}
 use Rattle.fits_cli.specs.declared.edited.Edited.TheVariants.{Done, KeptBack, Unsound}
 use Rattle.fits_cli.specs.declared.planned.Planned.{Planned}
 use Rattle.fits_redo.specs.declared.plan.Plan.{Plan}
-use Rattle.fitsed.specs.declared.saved_end.Told.{Told}
-use Rattle.fitsed.specs.declared.saved_end.Told.TheVariants.{Nothing, OfFile, OfAll}
 use Rattle.fits_tell.specs.declared.fault.Fault.{Fault}
 use Rattle.fits_tell.specs.declared.fault.Fault.TheVariants.{WriteFailed, Reread as RereadFault}
 use Rattle.fits_tell.specs.declared.reread.Reread.TheVariants as again
@@ -21,7 +19,7 @@ is_saved (Ok (KeptBack undone)) = false
 is_saved (Ok (Unsound errors warnings)) = false
 is_saved (Err why) = false
 
--- a run ended so; or its result was to be saved, and couldn't be kept
+-- a run ended so, and its result is where it is to be; or it couldn't be kept
 abbrev pub StandsOrFails : Result Edited Fault → Result Edited Fault → Type 0
 StandsOrFails done ended = (ended ≡ done) ⊎ ((is_saved done ≡ true) × (ended ≡ Err WriteFailed))
 
@@ -30,12 +28,11 @@ abbrev pub plan_of : Result Planned Fault → Option Plan
 plan_of (Ok it) = it.plan
 plan_of (Err fault) = None
 
--- a run ended so; or its result was to be saved, and its plan's blocks couldn't be written, or the file isn't what was read
+-- a run ended so, and the blocks of its plan are in its file; or they couldn't be written, or the file isn't what was read
 abbrev pub IsWrittenOrFails : Result Edited Fault → Result Edited Fault → Type 0
 IsWrittenOrFails done ended = (ended ≡ done) ⊎ ((is_saved done ≡ true) × ((ended ≡ Err WriteFailed) ⊎ (ended ≡ Err (RereadFault again.Changed))))
 
--- a run over a file that is held ended so; or its result was to be saved, and it couldn't be kept, or the blocks of its plan couldn't be
--- written, or the file isn't what was read
+-- a run over a file that is held ended so, and its result is where it is to be; or it couldn't be kept
 abbrev pub EndsInPlace : Option Plan → Result Edited Fault → Result Edited Fault → Type 0
 EndsInPlace None done ended = StandsOrFails done ended
 EndsInPlace (Some plan) done ended = IsWrittenOrFails done ended
@@ -49,8 +46,7 @@ abbrev pub status_of_saving : Option SaveFault → Result Edited Fault → ℕ
 status_of_saving None done = (end_of done).status
 status_of_saving (Some fault) done = 3
 
--- the status: that of the run, or 3 where saving is at fault, or standard error was told already why the file isn't edited
-abbrev pub status_told : Told → Option SaveFault → Result Edited Fault → ℕ
-status_told Nothing fault done = status_of_saving fault done
-status_told OfFile fault done = 3
-status_told OfAll fault done = 3
+-- the same, or what it was said to be where standard error was told why
+abbrev pub status_told : Option ℕ → Option SaveFault → Result Edited Fault → ℕ
+status_told None fault done = status_of_saving fault done
+status_told (Some status) fault done = status

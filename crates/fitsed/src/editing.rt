@@ -18,7 +18,7 @@ use crate::reporting::{
     report_replaced, report_undone, reported, reported_oddity, reported_of, reported_save,
     reported_script,
 };
-use crate::saved_end::{SavedEnd, Told};
+use crate::saved_end::SavedEnd;
 use crate::scaled::{has_pixel_line, tell_scaled};
 use crate::subject::Subject;
 use crate::task::{Inputs, SavingTerms};
@@ -111,13 +111,9 @@ pub fn edit_in_place<
             named: files.named,
             detail,
         };
-        match finished_first(rt, subject) {
-            Told::Nothing => {}
-            Told::OfFile => {
-                status = NOT_DONE;
-                continue;
-            }
-            Told::OfAll => return NOT_DONE,
+        if let Some(undone) = finished_first(rt, subject) {
+            status = status.max(undone);
+            continue;
         }
         let at = FilePair { subject, to: path };
         tell_values(rt, subject, &text);
@@ -374,7 +370,7 @@ fn kept<P: Place + Drop>(
         done,
         fault: None,
         met: 0,
-        told: Told::Nothing,
+        told: None,
     };
     if !ended.is_saved() {
         let fault = saved.get_ref().fault();
@@ -399,8 +395,8 @@ fn status_of<R: Files<File = File> + Eprint + AllocGlobal>(
 ) -> u8
     ensures { result ≡ status_told ended.now.told ended.now.fault ended.now.done }
 {
-    if !matches!(ended.told, Told::Nothing) {
-        return NOT_DONE;
+    if let Some(status) = ended.told {
+        return status;
     }
     match ended.done {
         Ok(Edited::KeptBack(undone)) => report_undone(rt, at.to, undone),

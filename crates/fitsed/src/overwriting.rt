@@ -1,15 +1,15 @@
 //! Files whose changed blocks are written into them.
-ghost use Rattle.std.specs.Prelude.{◌≡◌, true, None, IfOk, OnErr};
+ghost use Rattle.std.specs.Prelude.{◌≡◌, None, IfOk, OnOk};
 ghost use Rattle.fits_redo.specs.Pair.{Files as PairFiles, Rests};
 ghost use Rattle.fits_redo.specs.Plan.{redone};
 ghost use Rattle.fits_cli.specs.Planned.{edited_of};
 ghost use Rattle.fitsed.specs.Running.{EditsSo};
-ghost use Rattle.fitsed.specs.Saving.{is_saved, plan_of, IsWrittenOrFails};
+ghost use Rattle.fitsed.specs.Saving.{plan_of, IsWrittenOrFails};
 
 use crate::editing::{FilePair, edited, finished, terms_of, unless_changed};
-use crate::files::{Standing, mode_of, standing_at};
+use crate::files::{mode_of, standing_at};
 use crate::remarks::{before_remarks, remarks_after};
-use crate::saved_end::{SavedEnd, Told};
+use crate::saved_end::SavedEnd;
 use crate::task::SavingTerms;
 use crate::unfinished::{recovered, reported_redo};
 use crate::wrong_sums::tell_wrong_sums;
@@ -34,9 +34,8 @@ pub fn overwritten<R: Files<File = File> + Eprint + AllocGlobal, S: Source, O: S
     ensures { EditsSo terms.entry (S.state script.old) (S.state script.new)
         (O.state out.old) (O.state out.new) result.done }
 {
-    let told = recovered(rt, at.subject, &mut held);
-    if !matches!(told, Told::Nothing) {
-        return SavedEnd::told(told);
+    if let Some(status) = recovered(rt, at.subject, &mut held) {
+        return SavedEnd::told(status);
     }
     let Ok(len) = held.len() else {
         return SavedEnd::from(Fault::ReadFailed);
@@ -55,15 +54,9 @@ pub fn overwritten<R: Files<File = File> + Eprint + AllocGlobal, S: Source, O: S
     let Ok(mut path) = System::new(rt, at.to, mode, seen, terms.saving) else {
         return SavedEnd::from(Fault::Memory);
     };
-    let there = standing_at(rt, at.to, held.file());
-    if !matches!(there, Standing::Same) {
-        // Another run gave the path to another file since this one was opened.
-        return SavedEnd::told(reported_redo(rt, at.subject, held.redo_name(), RedoFault::Changed));
-    }
     let mut saved = SavedFile::at(place, terms.saving.safe);
-    if !held.has_one_name() || !saved.spares() {
-        // It couldn't be written anew while its data lie in it, or another name of it would tell
-        // nothing of a run that is broken off.
+    if !saved.spares() {
+        // It couldn't be written anew while its data lie in it.
         drop(held);
         return edited(rt, at, terms, script, out);
     }
@@ -73,6 +66,7 @@ pub fn overwritten<R: Files<File = File> + Eprint + AllocGlobal, S: Source, O: S
     if terms.sums && at.subject.detail.tells() {
         tell_wrong_sums(rt, at.subject);
     }
+    let there = standing_at(rt, at.to, held.file());
     let of_run = terms_of(terms, there);
     let mut saved = Watched::new(saved);
     let mut log = ReadLog::none();
@@ -90,10 +84,7 @@ pub fn overwritten<R: Files<File = File> + Eprint + AllocGlobal, S: Source, O: S
     let (ran, plan) = parts_of(ran);
     let done = unless_changed(held.file(), seen, ran);
     match plan {
-        Some(plan) => match written(rt.alloc(), &mut held, &mut path, &plan, done) {
-            Ok(end) => end,
-            Err(fault) => SavedEnd::told(reported_redo(rt, at.subject, held.redo_name(), fault)),
-        },
+        Some(plan) => written(rt, &mut held, &mut path, at, &plan, done),
         None => {
             drop(held);
             finished(rt, at, there, saved.into_inner(), done)
@@ -114,29 +105,43 @@ fn parts_of(done: Result<Planned, Fault>) -> (Result<Edited, Fault>, Option<Plan
 
 // Writes the blocks of a plan, where all went well, and the file still stands there as it was. No other
 // run takes its path meanwhile.
-fn written<R: Files<File = File>, P: Pair>(
-    alloc: Global,
-    pair: &mut P,
+fn written<R: Files<File = File> + Eprint + AllocGlobal>(
+    rt: &R,
+    held: &mut Held<'_, R>,
     path: &mut System<'_, R>,
+    at: FilePair<'_>,
     plan: &Plan,
     done: Result<Edited, Fault>,
-) -> Result<SavedEnd, RedoFault>
-    ensures ended { IfOk result (λ end. IsWrittenOrFails done end.done) }
-
-    // Where it is said to be saved the new file stands there, on the disk, and no redo file.
-    ensures saved { (f : PairFiles) → P.stands pair.old f → f.redo ≡ None
-        → IfOk result (λ end. is_saved end.done ≡ true → Rests P.stands P.may_leave pair.new
-        (record { file = redone plan.now.blocks.items f.file; redo = None })) }
-    ensures err { OnErr result (is_saved done ≡ true) }
+) -> SavedEnd
+    ensures { IsWrittenOrFails done result.done }
 {
-    let Ok(Edited::Done(_)) = done else {
-        return Ok(SavedEnd::of(done));
+    let Ok(Edited::Done(status)) = done else {
+        return SavedEnd::of(done);
     };
     if !path.holds() {
-        return Ok(SavedEnd::from(Fault::Reread(Reread::Changed)));
+        return SavedEnd::from(Fault::Reread(Reread::Changed));
     }
-    let made = overwrite(alloc, pair, plan);
+    let made = made_there(rt.alloc(), held, plan, Edited::Done(status));
     path.let_go();
-    made?;
-    Ok(SavedEnd::of(done))
+    match made {
+        Ok(edited) => SavedEnd::of(Ok(edited)),
+        Err(fault) => SavedEnd::told(reported_redo(rt, at.subject, fault)),
+    }
+}
+
+// Makes the changes of a plan, after which a run has come to this.
+fn made_there<P: Pair>(
+    alloc: Global,
+    pair: &mut P,
+    plan: &Plan,
+    edited: Edited,
+) -> Result<Edited, RedoFault>
+    // Then the new file stands there, on the disk, and no redo file.
+    ensures ok { (f : PairFiles) → P.stands pair.old f → f.redo ≡ None
+        → OnOk result (Rests P.stands P.may_leave pair.new
+        (record { file = redone plan.now.blocks.items f.file; redo = None })) }
+    ensures same { IfOk result (λ it. it ≡ edited) }
+{
+    overwrite(alloc, pair, plan)?;
+    Ok(edited)
 }

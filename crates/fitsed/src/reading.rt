@@ -16,7 +16,7 @@ use crate::reporting::{
 use crate::scaled::{has_pixel_line, tell_scaled};
 use crate::subject::Subject;
 use crate::task::Inputs;
-use crate::unfinished::{NOT_DONE, is_unfinished, unfinished_end};
+use crate::unfinished::{NOT_DONE, is_unfinished};
 use crate::words::oddity_of;
 use fits_cli::{
     CardChoice, End, Fault, Manner, Telling, run_ask, run_ask_stored, run_cards, run_telling,
@@ -29,6 +29,12 @@ use std::alloc::{AllocError, Global};
 use std::fs::File;
 use std::io::{BufWriter, Write};
 use std::{fs, io, rt};
+
+/// The end of a file of which an edit was broken off: standard error was told.
+const UNFINISHED: End = End {
+    status: NOT_DONE,
+    fault: None,
+};
 
 /// What is done with a file.
 #[derive(Clone, Copy)]
@@ -143,7 +149,7 @@ pub fn each<
             if ends_all(fault) {
                 return status;
             }
-        } else if end.status != NOT_DONE && detail.tells() && job.has_values() {
+        } else if detail.tells() && job.has_values() {
             tell_scaled(rt, subject);
         }
     }
@@ -217,10 +223,10 @@ fn lacking<R: rt::Files<File = File> + Eprint + AllocGlobal>(
     choices: &[CardChoice],
     subject: Subject<'_>,
 ) -> End {
-    if let Some(end) = unfinished_end(rt, subject.name) {
-        return end;
-    }
     for choice in choices {
+        if is_unfinished(rt, subject.name) {
+            return UNFINISHED;
+        }
         let Ok(file) = fs::open(rt, subject.name) else {
             return End::from(Fault::ReadFailed);
         };
@@ -244,8 +250,8 @@ fn one<R: rt::Files<File = File> + Eprint + AllocGlobal, W: Write>(
     subject: Subject<'_>,
     out: &mut W,
 ) -> End {
-    if let Some(end) = unfinished_end(rt, subject.name) {
-        return end;
+    if is_unfinished(rt, subject.name) {
+        return UNFINISHED;
     }
     let Ok(file) = fs::open(rt, subject.name) else {
         return End::from(Fault::ReadFailed);
@@ -268,8 +274,8 @@ fn as_json<R: rt::Files<File = File> + Eprint + AllocGlobal, W: Write>(
     subject: Subject<'_>,
     out: &mut W,
 ) -> End {
-    if let Some(end) = unfinished_end(rt, subject.name) {
-        return end;
+    if is_unfinished(rt, subject.name) {
+        return UNFINISHED;
     }
     let Ok(file) = fs::open(rt, subject.name) else {
         return End::from(Fault::ReadFailed);

@@ -7,16 +7,15 @@ use fits_unit::{CopyFault, DataUnit, LoadFault};
 use std::alloc::{AllocError, Global};
 
 impl Hdu {
-    ghost use Rattle.std.specs.Prelude.{◌≡◌, ◌≤◌, ◌+◌, ◌%◌, ◌<◌, ◌↔◌, ℕ, List, is_some, length, None, IfOk, IfErr, IfNone, IfSome, IsOk, IsSome, IsSomeAnd, IsTrue, OnOk, OnErr};
+    ghost use Rattle.std.specs.Prelude.{◌≡◌, ◌≤◌, ◌+◌, ◌<◌, ◌↔◌, is_some, length, None, IfOk, IfErr, IfNone, IfSome, IsOk, IsSome, IsSomeAnd, IsTrue, OnOk, OnErr};
     ghost use Rattle.fits_image.specs.Kind.{kind_in};
-    ghost use Rattle.fits_stream.specs.Agree.{IsOf};
     ghost use Rattle.fits_stream.specs.Stream.{Prints};
     ghost use Rattle.fits_pixels.specs.Layout.{block_count};
-    ghost use Rattle.fits_unit.specs.Again.{copied_blocks, CopyCounts, CopyFails, CopyWrites, Follows, LoadCounts, Looks, PrintsAs, ReadsRest};
-    ghost use Rattle.fits_unit.specs.DataUnit.{away_plane, holds_piece, is_passed, passed_blank, piece_of, pieces_in, place_of, IsCounted, LiesIn};
+    ghost use Rattle.fits_unit.specs.Again.{copied_blocks, CopyCounts, CopyFails, CopyWrites, Follows, LoadCounts, Looks, PrintsAs, ReadsRest, InEachFile, IsUnchanged};
+    ghost use Rattle.fits_unit.specs.DataUnit.{away_plane, holds_piece, is_passed, piece_of, pieces_in, place_of, IsCounted, LiesIn};
     ghost use Rattle.fits_passing.specs.Hdu.{hdu_bytes};
     ghost use Rattle.fits_passing.specs.Met.{IsMet};
-    ghost use Rattle.fits_hdu.specs.State.{hdu_at, parts_of, HasPixels, IsSeen, ReadsUpTo};
+    ghost use Rattle.fits_hdu.specs.State.{hdu_at, parts_of, HasPixels, IsSeen, ReadsUpTo, unit_of};
     ghost use Rattle.fits_hdu.specs.Work.{HasHduTotal, IsOpenedAt, Loads, WritesHdu};
 
     /// The HDU whose data unit passed by or stays unread, and lies at this place of a file.
@@ -25,7 +24,8 @@ impl Hdu {
         ensures header { IfOk result (λ it. it.header.header ≡ passed.header.header) }
         ensures shape { IfOk result (λ it. it.header.shape ≡ passed.header.shape) }
         ensures unit { IfOk result (λ it. it.plane.bytes ≡ (away_plane passed.unit).bytes) }
-        ensures known { IfOk result (λ it. IfSome it.absent (λ at. at.known ≡ is_passed passed.unit)) }
+        ensures known { IfOk result (λ it. IfSome it.absent (λ at. at.known
+            ≡ is_passed passed.unit)) }
         ensures opened { IfOk result (IsOpenedAt place) }
     {
         let PassedHdu { header, unit } = passed;
@@ -97,11 +97,12 @@ impl Hdu {
         ensures known { OnOk result (IsSeen self.new) }
         ensures fresh { (IsSeen self.old → ⊥)
             → OnOk result (IsCounted self.new.plane self.new.absent) }
-        ensures same { (told : List ℕ) → IsOf told log.new → LiesIn told self.old.plane self.old.absent
-            → OnOk result (parts_of self.new ≡ parts_of (hdu_at told self.old)) }
-        ensures lies { (told : List ℕ) → IsOf told log.new → LiesIn told self.old.plane self.old.absent
-            → LiesIn told self.new.plane self.new.absent }
-        ensures place { IfSome self.old.absent (λ it. IfSome self.new.absent (λ at. at.place ≡ it.place)) }
+        ensures same { InEachFile log.new (unit_of self.old)
+            (λ told. OnOk result (parts_of self.new ≡ parts_of (hdu_at told self.old))) }
+        ensures lies { InEachFile log.new (unit_of self.old)
+            (λ told. LiesIn told self.new.plane self.new.absent) }
+        ensures place { IfSome self.old.absent (λ it. IfSome self.new.absent (λ at. at.place
+            ≡ it.place)) }
         ensures away { self.new.absent ≡ None → self.old.absent ≡ None }
         ensures loads { Loads 1 self.old self.new }
         ensures idle { IsSeen self.old → self.new ≡ self.old }
@@ -109,9 +110,7 @@ impl Hdu {
         ensures quiet { OnOk result (log.new.failures ≡ log.old.failures) }
         ensures err { OnErr result (self.new ≡ self.old) }
         ensures counted { IfErr result (LoadCounts log.old.failures log.new.failures) }
-        ensures steady { (told : List ℕ) → IsOf told log.new
-            → LiesIn told self.old.plane self.old.absent
-            → IfErr result (λ why. why ≡ LoadFault.Changed → ⊥) }
+        ensures steady { InEachFile log.new (unit_of self.old) (λ told. IsUnchanged result) }
         ensures follows { Follows log.old log.new }
         ensures size { length room.new ≡ length room.old }
     {
@@ -131,8 +130,8 @@ impl Hdu {
         ensures held { OnOk result (self.new.absent ≡ None) }
         ensures loaded { OnOk result (IfSome self.old.absent (λ it. ReadsRest it.place it.held
             self.old.plane.bytes log.old log.new self.new.plane.bytes)) }
-        ensures same { (told : List ℕ) → IsOf told log.new → LiesIn told self.old.plane self.old.absent
-            → OnOk result (parts_of self.new ≡ parts_of (hdu_at told self.old)) }
+        ensures same { InEachFile log.new (unit_of self.old)
+            (λ told. OnOk result (parts_of self.new ≡ parts_of (hdu_at told self.old))) }
         ensures loads { Loads 1 self.old self.new }
         ensures scanned { OnOk result (IfSome self.old.absent (λ _. self.new.plane.scans
             ≡ self.old.plane.scans + block_count self.old.plane.bytes)) }
@@ -141,9 +140,7 @@ impl Hdu {
         ensures quiet { OnOk result (log.new.failures ≡ log.old.failures) }
         ensures err { OnErr result (self.new ≡ self.old) }
         ensures counted { IfErr result (LoadCounts log.old.failures log.new.failures) }
-        ensures steady { (told : List ℕ) → IsOf told log.new
-            → LiesIn told self.old.plane self.old.absent
-            → IfErr result (λ why. why ≡ LoadFault.Changed → ⊥) }
+        ensures steady { InEachFile log.new (unit_of self.old) (λ told. IsUnchanged result) }
         ensures follows { Follows log.old log.new }
         ensures size { length room.new ≡ length room.old }
     {
@@ -169,10 +166,10 @@ impl Hdu {
         ensures held { OnOk result (HasPixels lo.now hi.now self.new) }
         ensures image { OnErr result (IsSome
             (kind_in self.old.header.shape self.old.header.header.cards)) }
-        ensures same { (told : List ℕ) → IsOf told log.new → LiesIn told self.old.plane self.old.absent
-            → parts_of (hdu_at told self.new) ≡ parts_of (hdu_at told self.old) }
-        ensures lies { (told : List ℕ) → IsOf told log.new → LiesIn told self.old.plane self.old.absent
-            → LiesIn told self.new.plane self.new.absent }
+        ensures same { InEachFile log.new (unit_of self.old)
+            (λ told. parts_of (hdu_at told self.new) ≡ parts_of (hdu_at told self.old)) }
+        ensures lies { InEachFile log.new (unit_of self.old)
+            (λ told. LiesIn told self.new.plane self.new.absent) }
         ensures known { IsSeen self.old → IsSeen self.new }
         ensures whole { self.old.absent ≡ None → self.new.absent ≡ None }
         ensures loads { Loads 2 self.old self.new }
@@ -180,9 +177,7 @@ impl Hdu {
         ensures at_once { HasPixels lo.now hi.now self.old → IsOk result }
         ensures quiet { OnOk result (log.new.failures ≡ log.old.failures) }
         ensures counted { IfErr result (LoadCounts log.old.failures log.new.failures) }
-        ensures steady { (told : List ℕ) → IsOf told log.new
-            → LiesIn told self.old.plane self.old.absent
-            → IfErr result (λ why. why ≡ LoadFault.Changed → ⊥) }
+        ensures steady { InEachFile log.new (unit_of self.old) (λ told. IsUnchanged result) }
         ensures follows { Follows log.old log.new }
         ensures size { length room.new ≡ length room.old }
     {
@@ -209,18 +204,16 @@ impl Hdu {
         sink: &mut W,
     ) -> Result<(), CopyFault>
         requires { 2880 ≤ length room.old }
-        ensures ok { (told : List ℕ) → IsOf told log.new
-            → LiesIn told self.old.plane self.old.absent
-            → OnOk result (Prints (hdu_bytes (parts_of (hdu_at told self.old)))
-            (W.state sink.old) (W.state sink.new)) }
+        ensures ok { InEachFile log.new (unit_of self.old) (λ told. OnOk result
+            (Prints (hdu_bytes (parts_of (hdu_at told self.old)))
+            (W.state sink.old) (W.state sink.new))) }
         ensures like { OnOk result (PrintsAs (HasHduTotal self.old)
             (length (hdu_bytes (parts_of self.old))) (W.state sink.old) (W.state sink.new)) }
         ensures copied { OnOk result (WritesHdu self.old log.old log.new
             (W.state sink.old) (W.state sink.new)) }
-        ensures err { (told : List ℕ) → IsOf told log.new
-            → LiesIn told self.old.plane self.old.absent
-            → IfErr result (CopyFails (hdu_bytes (parts_of (hdu_at told self.old)))
-            (W.state sink.old) (W.state sink.new)) }
+        ensures err { InEachFile log.new (unit_of self.old)
+            (λ told. IfErr result (CopyFails (hdu_bytes (parts_of (hdu_at told self.old)))
+            (W.state sink.old) (W.state sink.new))) }
         ensures writes { IfErr result (CopyWrites (W.state sink.old) (W.state sink.new)) }
         ensures follows { Follows log.old log.new }
         ensures size { length room.new ≡ length room.old }

@@ -1,0 +1,7 @@
+use Rattle.std.proofs.lemmas.Int.{to_z-of_z}
+use Rattle.std.specs.Int.{w128}
+use Rattle.fits_plane.proofs.data_bytes.DataBytes.convert.Goals as goal
+
+-- the numbers are those of its bytes
+pub returns-clause-inside : goal.returns-clause-inside
+returns-clause-inside c = rw (to_z-of_z w128 c.args.shift c.ranges.shift, c.as_slice-source.ensures.value) at c.convert_all.ensures.inside
