@@ -3,17 +3,19 @@
 
     .ci/library.py [--anew]
 
-`rt ci` proves a static library, and builds none. `rt lib` would prove each crate below once more, since the libraries of `rt ci` have
-no stamp; so the toolchain is called here as the tool that tries refused bodies calls it: it proves fits_c alone, and builds. What was
-built is kept on this machine, by the sum of all that it rests on; --anew builds it in any case. The last line is 'N passed, M failed'."""
+`rt ci` proves a static library, and builds none; it may run still, once the crates that this one stands on are proved. `rt lib` would
+prove each of those once more, since the libraries of `rt ci` have no stamp; so the toolchain is called here as the tool that tries
+refused bodies calls it, over files of our own: it proves fits_c alone, and builds. What was built is kept on this machine, by the sum of
+all that it rests on; --anew builds it in any case. The last line is 'N passed, M failed'."""
 import hashlib
 import os
 import re
 import shutil
 import subprocess
 import sys
+import tempfile
 
-from edits import KIT, TOP, rtlib, text_of
+from edits import KIT, TOP, rtlib, take, text_of
 
 KEPT = os.path.join(os.environ.get("XDG_CACHE_HOME", os.path.expanduser("~/.cache")), "fitsed-library")
 
@@ -35,9 +37,12 @@ def built(anew):
     if os.path.exists(kept) and not anew:
         shutil.copy(kept, made)
     else:
-        words = crate.words(["--jobs", "2"], keeps=False)
-        words += ["--toolchain", f"{KIT}/toolchain", "--backend", "llvm", "--incremental", "out/incremental", "-o", "out/libfits_c.a"]
-        ran = subprocess.run([*rtlib.guarded(), rtlib.RATTLE, "build", *words], **how)
+        with tempfile.TemporaryDirectory(prefix="fitsed-library-") as room:
+            for dep in crate.below():
+                take(dep, room)
+            words = crate.words(["--jobs", "2"], keeps=False)
+            words += ["--toolchain", f"{KIT}/toolchain", "--backend", "llvm", "--incremental", "out/incremental", "-o", "out/libfits_c.a"]
+            ran = subprocess.run([*rtlib.guarded(), rtlib.RATTLE, "build", *words], **how)
         if ran.returncode:
             return (ran.stdout + ran.stderr)[-2000:]
         shutil.copy(made, f"{kept}.new")
