@@ -133,6 +133,7 @@ long_there : (xs own : List ℕ) (it : Absence) (known : Bool) → Lies xs own i
 long_there xs own it true lies = refl
 long_there xs own it false lies = there_long xs own it lies
 
+-- so is any data unit that lies there
 pub unit_long : (xs own : List ℕ) (absent : Option Absence) → IfSome absent (Lies xs own) → length (unit_at xs own absent) ≡ length own
 unit_long xs own None lies = refl
 unit_long xs own (Some it) lies = long_there xs own it it.known lies
