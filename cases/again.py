@@ -129,7 +129,7 @@ TIMEOUT = 120
 SHM = "/dev/shm" if os.access("/dev/shm", os.W_OK) else None
 
 # Lines that want all pixels of such an image, or half of them.
-TOO_LARGE = [f"fill 1 1:{LARGE // 2} 5", f"rect 1 2:{LARGE}", "reshape 1 i16 1", "stamp 1\nset 1 BLANK 7\nstat 1"]
+TOO_LARGE = [f"fill 1 1:{LARGE // 2} 5", f"rect 1 2:{LARGE}", "keep 1\nreshape 1 i16 1", "stamp 1\nset 1 BLANK 7\nstat 1"]
 
 # Lines that want some of them, what they print, and which bytes are others then.
 FEW = f"fill 1 1:1 5\nwrite 1 46080:46081 6 7\nrect 1 46079:46082\nfill 1 {LARGE}:{LARGE} 9\nrect 1 1:2\nstat 1\nsum 1"

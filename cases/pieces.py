@@ -21,9 +21,9 @@ from program import differences
 
 PIECE = 46_080
 
-# Pixels by their bytes: how they are packed, and what `reshape` calls them.
+# Pixels by their bytes: how they are packed, and what `reshape` calls them, with the offset.
 TYPES = {1: "B", 2: "h", 4: "i", 8: "q"}
-KINDS = {"u8": 1, "i16": 2, "i32": 4, "i64": 8}
+KINDS = {"u8": (1, 0), "i8": (1, -128), "i16": (2, 0), "u16": (2, 2**15), "i32": (4, 0), "u32": (4, 2**31), "i64": (8, 0), "u64": (8, 2**63)}
 
 # Lines after which an HDU that is kept stamped is stamped again.
 EDITS = {"fill", "write", "set", "unset", "reshape"}
@@ -90,10 +90,13 @@ class Image:
         del self.cards[name]
 
     def reshape(self, kind, axes):
-        self.width, self.axes = KINDS[kind], [int(axis) for axis in axes.split(",")]
+        before, (self.width, offset) = self.offset(), KINDS[kind]
+        self.axes = [int(axis) for axis in axes.split(",")]
         count = math.prod(self.axes)
-        kept = self.numbers[:count].tolist()
+        kept = [number + before - offset for number in self.numbers[:count]]
         self.numbers = array.array(TYPES[self.width], kept + [0] * (count - len(kept)))
+        if before != offset:
+            self.cards |= {"BSCALE": 1, "BZERO": offset}
 
     def rect(self, corners):
         return " ".join(str(self.numbers[place] + self.offset()) for place in self.places(corners)) + "\n"
@@ -325,9 +328,9 @@ def of_faults(shim):
     yield "edit, a change before any read again", stands, changes_later, shim, *PLAIN[0], WANTED, {"BYTE": str(place(50))}
 
 
-def comes_to(program, width, axes, cards, lines, words=("edit",), has_sums=False):
+def comes_to(program, width, axes, cards, lines, words=("edit",), has_sums=False, kind=Image):
     """Where a script over an image comes to something else than by the plain program, or other bytes are saved."""
-    image = Image(width, axes, cards, has_sums, has_sums and "-s" in words)
+    image = kind(width, axes, cards, has_sums, has_sums and "-s" in words)
     before = file_of(image)
     printed, after = "".join(told_by(image, lines)), file_of(image)
     ends = {"status": int("refused" in printed), "printed": printed.encode(), "reported": b""}

@@ -16,6 +16,7 @@ import batches
 import card_edits
 import codes
 import commands
+import converting
 import documents
 import extended
 import faults
@@ -72,6 +73,7 @@ TABLES = [
     one_file,
     again,
     pieces,
+    converting,
     odd_places,
     saving,
     safe_saving,

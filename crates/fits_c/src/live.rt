@@ -8,6 +8,7 @@ ghost use Rattle.fits_c.specs.Lines.{said_by, IsUndone};
 use crate::bytes::Bytes;
 use crate::undone::Undone;
 use fits_cli::{Command, answer_command, ready};
+use fits_passing::Look;
 use fits_script::{LineReading, read_line};
 use fits_session::{OpenFault, Refusal, Session};
 use fits_stream::{ReadLog, Watched};
@@ -132,7 +133,7 @@ fn do_command(alloc: Global, session: &mut Session, command: Command) -> Result<
     ensures kept { OnErr result (marked_of session.new ≡ marked_of session.old) }
 {
     session.is_sound();
-    match ready(session, &command, &mut ReadLog::none()) {
+    match ready(session, &command, Look::Headers, &mut ReadLog::none()) {
         Ok(()) => answer_command(alloc, session, false, command),
         // All data are in memory.
         Err(_) => unreachable!(),

@@ -33,16 +33,16 @@ use Rattle.fits_session.specs.Edit.{hdu_of}
 use Rattle.fits_session.specs.Marked.{column_refusal, edit_keeps, guarded, is_kept, is_stamped_after, kept_in, marked_after, marked_refusal, Marked}
 use Rattle.fits_session.specs.Query.{array_in, datasum_in, in_hdu, kind_in, positions_in, rect_in, stats_in, value_in, verdicts_in}
 use Rattle.fits_session.specs.Refusal.{refusal_in, EditNeedsMemory}
-use Rattle.fits_session.specs.Session.{absences_after, absences_of, file_of, kept_of, marked_of, session_at, SessionState}
+use Rattle.fits_session.specs.Session.{unread_after, unread_of, file_of, kept_of, marked_of, session_at, SessionState}
 use Rattle.fits_session.proofs.LoadedLemmas.{kept_at_told}
 use Rattle.fits_session.proofs.HeaderLemmas.{header_of, headers_of, headers_told, keeps_alike, places_alike, value_alike}
-use Rattle.fits_session.proofs.ToldLemmas.{any_after, any_refusal, any_same, kept_told, offsets_told, rect_told, seen_told_all, seen_told_hdu, stats_told}
+use Rattle.fits_session.proofs.ToldLemmas.{any_after, any_refusal, kept_told, offsets_told, rect_told, same_unread, seen_told_all, seen_told_hdu, stats_told}
 use Rattle.fits_script.specs.declared.command.Command.{Command}
 use Rattle.fits_script.specs.declared.command.Command.TheVariants.{Nothing, Edit, Offsets, Get, Positions, Report, Statistics, Rectangle, Sums, Kept}
 use Rattle.fits_tell.specs.PixelLines.{statistics_line, sums_line, values_line}
 use Rattle.fits_tell.specs.Report.{report_text}
 use Rattle.fits_tell.specs.declared.level.Level.TheVariants as level
-use Rattle.fits_cli.specs.Answer.{absences_left, asked, kept_line, offset_lines, outcome_of, plains_for, queries_by, places_line, some_places, sums_asked, unless, CommandFails, CommandWantsData, Done, IsReady, OutcomeNeedsMemory}
+use Rattle.fits_cli.specs.Answer.{asked, kept_line, offset_lines, outcome_of, plains_for, queries_by, places_line, some_places, sums_asked, unless, unread_left, CommandFails, CommandWantsData, Done, IsReady, OutcomeNeedsMemory}
 use Rattle.fits_cli.specs.Running.{guarded_by, standing_at, standing_over, Progress}
 use Rattle.fits_cli.specs.ValueLine.{value_line}
 use Rattle.fits_cli.proofs.GuardLemmas.{after_guarded, fails_refused}
@@ -138,12 +138,12 @@ module _ (tables : Bool) (told : List ℕ) (session : SessionState) (whole : IsF
 
   -- what it prints it prints over it
   query_done : (new : SessionState) (command : Command) (text : List ℕ) → IsReady command session.hdus → ((edit : SessionEdit) → command ≡ Edit edit → ⊥)
-      → outcome_of it command ≡ Ok (record { text = text; left = guarded tables (marked_of new) }) → absences_of new.hdus ≡ absences_of session.hdus
+      → outcome_of it command ≡ Ok (record { text = text; left = guarded tables (marked_of new) }) → unread_of new.hdus ≡ unread_of session.hdus
       → outcome_of over command ≡ Ok (record { text = text; left = guarded tables (marked_of (session_at told new)) })
   query_done new command text ready query done away =
       let here : Path (Result Done Refusal) (Ok (record { text = text; left = guarded tables (marked_of new) })) (Ok (record { text = text; left = it })) = sym done ∙ query_here command query ∙ ap (leaving it) done in
       let same : marked_of new ≡ marked_of session = ap (guarded false) (ap (left_or it) here) in
-      query_over command ready query ∙ ap (leaving over) done ∙ ap (λ (left : Marked). Ok (record { text = text; left = guarded tables left })) (sym (any_same told session new same away))
+      query_over command ready query ∙ ap (leaving over) done ∙ ap (λ (left : Marked). Ok (record { text = text; left = guarded tables left })) (sym (same_unread told session new same away))
 
   -- an edit is refused alike, where tables are kept too
   columns_over : (edit : SessionEdit) → marked_refusal (marked_of (session_at told session)) edit ≡ marked_refusal (marked_of session) edit → marked_refusal over edit ≡ marked_refusal it edit
@@ -159,14 +159,14 @@ module _ (tables : Bool) (told : List ℕ) (session : SessionState) (whole : IsF
   edit_over edit ready = columns_over edit (any_refusal told edit session.hdus session.tail whole described ready lie)
 
   -- and leaves the same
-  after_over : (new : SessionState) (edit : SessionEdit) → IsReady (Edit edit) session.hdus → guarded tables (marked_of new) ≡ marked_after it edit → absences_of new.hdus ≡ absences_after edit (absences_of session.hdus) → guarded tables (marked_of (session_at told new)) ≡ marked_after over edit
+  after_over : (new : SessionState) (edit : SessionEdit) → IsReady (Edit edit) session.hdus → guarded tables (marked_of new) ≡ marked_after it edit → unread_of new.hdus ≡ unread_after edit (unread_of session.hdus) → guarded tables (marked_of (session_at told new)) ≡ marked_after over edit
   unfolding IsReady
   after_over new edit ready is away =
       let plain : marked_of new ≡ marked_after (marked_of session) edit = ap (guarded false) (is ∙ after_guarded tables (marked_of session) edit) ∙ sym (after_guarded false (marked_of session) edit) in
       ap (guarded tables) (any_after told edit session.hdus session.tail new whole described ready lie plain away) ∙ sym (after_guarded tables (marked_of (session_at told session)) edit)
 
   -- so it comes to the same
-  edit_done : (new : SessionState) (edit : SessionEdit) (text : List ℕ) → IsReady (Edit edit) session.hdus → outcome_of it (Edit edit) ≡ Ok (record { text = text; left = guarded tables (marked_of new) }) → absences_of new.hdus ≡ absences_after edit (absences_of session.hdus)
+  edit_done : (new : SessionState) (edit : SessionEdit) (text : List ℕ) → IsReady (Edit edit) session.hdus → outcome_of it (Edit edit) ≡ Ok (record { text = text; left = guarded tables (marked_of new) }) → unread_of new.hdus ≡ unread_after edit (unread_of session.hdus)
       → outcome_of over (Edit edit) ≡ Ok (record { text = text; left = guarded tables (marked_of (session_at told new)) })
   unfolding outcome_of
   edit_done new edit text ready done away =
@@ -179,7 +179,7 @@ module _ (tables : Bool) (told : List ℕ) (session : SessionState) (whole : IsF
       ∙ ap (λ (after : Marked). Ok (record { text = text; left = after })) (sym (after_over new edit ready left away))
 
   -- a command that is done comes to the same over the file
-  pub done_over : (new : SessionState) (command : Command) (text : List ℕ) → IsReady command session.hdus → outcome_of it command ≡ Ok (record { text = text; left = guarded tables (marked_of new) }) → absences_of new.hdus ≡ absences_left command (absences_of session.hdus)
+  pub done_over : (new : SessionState) (command : Command) (text : List ℕ) → IsReady command session.hdus → outcome_of it command ≡ Ok (record { text = text; left = guarded tables (marked_of new) }) → unread_of new.hdus ≡ unread_left command (unread_of session.hdus)
       → outcome_of over command ≡ Ok (record { text = text; left = guarded tables (marked_of (session_at told new)) })
   done_over new (Edit edit) text ready done away = edit_done new edit text ready done away
   done_over new Nothing text ready done away = query_done new Nothing text ready (λ edit is. cc) done away

@@ -10,7 +10,7 @@ use Rattle.fits_session.specs.Query.{datasum_in, kind_in, positions_in, rect_in,
 use Rattle.fits_passing.specs.Report.{report_of}
 use Rattle.fits_making.specs.Refusal.{refusal_text}
 use Rattle.fits_session.specs.Refusal.{EditNeedsMemory}
-use Rattle.fits_session.specs.Session.{absences_after, HasPixels, HasStats, IsReadyFor, IsSeen, IsSoOf}
+use Rattle.fits_session.specs.Session.{unread_after, HasPixels, HasStats, IsReadyFor, IsSeen, IsSoOf, KeepsSeenIn}
 use Rattle.fits_session.specs.Edit.{hdu_of}
 use Rattle.fits_unit.specs.DataUnit.{Absence}
 use Rattle.fits_hdu.specs.State.{HduState}
@@ -203,10 +203,15 @@ IsReady (Sums hdu) hdus = IsSoOf IsSeen hdu hdus
 IsReady Report hdus = All IsSeen hdus
 IsReady command hdus = Unit {0}
 
--- where the data units lie after it that aren't in memory
-abbrev pub absences_left : Command → List (Option Absence) → List (Option Absence)
-absences_left (Edit edit) absences = absences_after edit absences
-absences_left command absences = absences
+-- where the data units lie after it that are to be read yet
+abbrev pub unread_left : Command → List (Option ℕ) → List (Option ℕ)
+unread_left (Edit edit) places = unread_after edit places
+unread_left command places = places
+
+-- what is known stays known where it is done
+abbrev pub KeepsSeenBy : Command → List HduState → Type 0
+KeepsSeenBy (Edit edit) hdus = KeepsSeenIn edit hdus
+KeepsSeenBy command hdus = Unit {0}
 
 -- a plain line may want them
 unfoldable pub WantsData : Marked → LineReading → Type 0

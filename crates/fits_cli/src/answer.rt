@@ -1,10 +1,10 @@
 //! What a command makes of a file, and what it prints.
-ghost use Rattle.std.specs.Prelude.{◌≡◌, ◌++◌, ℕ, List, true, IfOk, IfErr, OnOk, OnErr, Ok};
+ghost use Rattle.std.specs.Prelude.{◌≡◌, ◌++◌, ℕ, List, true, All, IfOk, IfErr, OnOk, OnErr, Ok};
 ghost use Rattle.fits_session.specs.Away.{AllLie, LieStill};
-ghost use Rattle.fits_session.specs.Session.{absences_of, marked_of, session_at};
+ghost use Rattle.fits_session.specs.Session.{absences_of, marked_of, session_at, unread_of, IsSeen};
 ghost use Rattle.fits_cli.specs.Answer.{offset_line, offset_lines};
 ghost use Rattle.fits_session.specs.Marked.{guarded};
-ghost use Rattle.fits_cli.specs.Answer.{absences_left, is_edit, keeps_tables, outcome_of, CommandFails, IsReady};
+ghost use Rattle.fits_cli.specs.Answer.{is_edit, keeps_tables, outcome_of, unread_left, CommandFails, IsReady, KeepsSeenBy};
 
 use crate::kept_line::kept;
 use crate::pixel_answers::{rectangle, statistics, sums};
@@ -28,9 +28,11 @@ pub fn answer<H: Holder + Drop>(
         ≡ Ok (record { text = text.items; left = guarded tables (marked_of session.new) })) }
     ensures err { IfErr result (CommandFails (guarded tables (marked_of session.old)) command) }
     ensures kept { OnErr result (marked_of session.new ≡ marked_of session.old) }
-    ensures stays { LieStill session.old.hdus session.new.hdus }
-    ensures absences { OnOk result (absences_of session.new.hdus
-        ≡ absences_left command (absences_of session.old.hdus)) }
+    ensures lies { (told : List ℕ) → AllLie told session.old.hdus → AllLie told session.new.hdus }
+    ensures seen { KeepsSeenBy command session.old.hdus
+        → All IsSeen session.old.hdus → All IsSeen session.new.hdus }
+    ensures unread { OnOk result (unread_of session.new.hdus
+        ≡ unread_left command (unread_of session.old.hdus)) }
     ensures away { OnErr result (absences_of session.new.hdus ≡ absences_of session.old.hdus) }
 
     // So it is over each file that the data units may lie in.
@@ -57,6 +59,8 @@ fn test_columns<H: Holder + Drop>(
     ensures err { IfErr result (CommandFails (guarded tables (marked_of session.old)) command.now) }
     ensures same { marked_of session.new ≡ marked_of session.old }
     ensures ready { IsReady command.now session.old.hdus → IsReady command.now session.new.hdus }
+    ensures keeps { KeepsSeenBy command.now session.old.hdus
+        → KeepsSeenBy command.now session.new.hdus }
     ensures stays { LieStill session.old.hdus session.new.hdus }
     ensures absences { absences_of session.new.hdus ≡ absences_of session.old.hdus }
 {
@@ -78,9 +82,11 @@ fn obey<H: Holder + Drop>(
         ≡ Ok (record { text = text.items; left = marked_of session.new })) }
     ensures err { IfErr result (CommandFails (marked_of session.old) command) }
     ensures kept { OnErr result (marked_of session.new ≡ marked_of session.old) }
-    ensures stays { LieStill session.old.hdus session.new.hdus }
-    ensures absences { OnOk result (absences_of session.new.hdus
-        ≡ absences_left command (absences_of session.old.hdus)) }
+    ensures lies { (told : List ℕ) → AllLie told session.old.hdus → AllLie told session.new.hdus }
+    ensures seen { KeepsSeenBy command session.old.hdus
+        → All IsSeen session.old.hdus → All IsSeen session.new.hdus }
+    ensures unread { OnOk result (unread_of session.new.hdus
+        ≡ unread_left command (unread_of session.old.hdus)) }
     ensures away { OnErr result (absences_of session.new.hdus ≡ absences_of session.old.hdus) }
 {
     match command {

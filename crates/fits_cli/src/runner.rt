@@ -262,7 +262,7 @@ impl<H: Holder + Drop> Runner<H> {
             Ok(LineReading::TooLong) => Ok(self.pass(Reply::TooLong, false)),
             Ok(LineReading::NoCommand(misfit)) => Ok(self.pass(Reply::NoCommand(misfit), false)),
             Ok(LineReading::Said(command)) => {
-                ready(&mut self.session, &command, &mut self.log)?;
+                ready(&mut self.session, &command, self.look, &mut self.log)?;
                 self.session.is_sound();
                 let clues = clues_of(wanted, &command);
                 let edits = is_edit(&command);

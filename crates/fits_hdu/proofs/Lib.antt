@@ -1,3 +1,4 @@
+pub mod AwayLemmas
 pub mod ChangeLemmas
 pub mod KeywordLemmas
 pub mod OpenLemmas

@@ -20,7 +20,7 @@ use Rattle.fits_passing.specs.Hdu.{HduParts, IsHdu, hdu_bytes}
 use Rattle.fits_passing.specs.Layout.{layout_of}
 use Rattle.fits_hdu.specs.Reshape.{ReshapeFails, can_reshape, cards_reshaped, kept_count, reshaped, reshaped_by, reshaped_shape, reshaped_to, unit_reshaped}
 use Rattle.fits_hdu.specs.Reshaping.{IsPlan, PlanFails, UnitFails, unit_planned}
-use Rattle.fits_hdu.specs.Work.{IsRead, IsRenewed, IsRescanned, PixelWork}
+use Rattle.fits_hdu.specs.Work.{IsRead, IsRenewed, PixelWork}
 use Rattle.fits_hdu.specs.declared.reshape_fault.ReshapeFault.{ReshapeFault}
 use Rattle.fits_hdu.specs.declared.reshape_fault.ReshapeFault.TheVariants.{NotImage, BadShape, OutOfRange, TooLarge, Memory}
 use Rattle.fits_hdu.specs.declared.reshaping.Reshaping.{Reshaping}
@@ -188,11 +188,11 @@ unit_fails primary kind axes shape hdu plan len count most spare Memory whole de
 -- ---- the work
 
 -- pixels were read, and then blocks scanned
-pub renewed : (kept blocks : ℕ) (old mid new : PixelWork) → IsRead kept old mid → IsRescanned blocks mid new → IsRenewed kept blocks old new
+pub renewed : (kept blocks : ℕ) (old mid new : PixelWork) → IsRead kept old mid → IsRenewed 0 blocks mid new → IsRenewed kept blocks old new
 renewed kept blocks old mid new read scanned = record {
-  more_reads = omega (arith, read.more_reads, scanned.reads);
+  more_reads = omega (arith, read.more_reads, scanned.more_reads);
   reads = omega (arith, read.reads, scanned.reads);
-  more_scans = omega (arith, read.scans, scanned.scans);
+  more_scans = omega (arith, read.scans, scanned.more_scans);
   scans = omega (arith, read.scans, scanned.scans);
   more_joins = omega (arith, read.joins, scanned.more_joins);
   joins = λ d enough. omega (arith, read.joins, scanned.joins d enough);

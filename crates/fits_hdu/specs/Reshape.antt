@@ -5,18 +5,22 @@ use Rattle.std.specs.Ordering.{int_eq}
 use Rattle.fits_card.specs.Change.{cards_after, spliced}
 use Rattle.fits_card.specs.Header.{header_length, with_cards}
 use Rattle.fits_plane.specs.Converting.{KeepsValues, kept_numbers, run_made}
+use Rattle.fits_plane.specs.declared.conversion.Conversion.{Conversion}
+use Rattle.fits_unit.specs.DataUnit.{CanConvert}
 use Rattle.fits_rules.specs.Class.{is_primary}
+use Rattle.fits_rules.specs.Image.{array_bits}
 use Rattle.fits_rules.specs.Lead.{lead_card}
 use Rattle.fits_rules.specs.SameShape.{same_shape}
 use Rattle.fits_rules.specs.Shape.{axis_name, shape_of}
 use Rattle.fits_rules.specs.Size.{array_values, data_length}
 use Rattle.fits_rules.specs.declared.array_shape.Shape.{Shape}
 use Rattle.fits_image.specs.ImageCards.{are_axes, shape_cards, written_number}
-use Rattle.fits_image.specs.Kind.{array_kind, has_offset, is_plain, offset_of, width_of}
+use Rattle.fits_image.specs.Kind.{array_kind, kind_in, has_offset, is_plain, offset_of, width_of}
 use Rattle.fits_image.specs.declared.kind.Kind.{Kind}
 use Rattle.fits_passing.specs.ExtensionName.{extension_name}
 use Rattle.fits_passing.specs.Hdu.{HduParts, IsHdu}
 use Rattle.fits_hdu.specs.Keyword.{keyword_cards, replacing}
+use Rattle.fits_hdu.specs.State.{HduState, unit_of}
 use Rattle.fits_hdu.specs.declared.reshape_fault.ReshapeFault.{ReshapeFault}
 use Rattle.fits_hdu.specs.declared.reshape_fault.ReshapeFault.TheVariants.{NotImage, BadShape, OutOfRange, TooLarge, Memory}
 
@@ -61,6 +65,22 @@ unfoldable pub can_reshape : Kind → Kind → List ℕ → Shape → List (List
 can_reshape old kind axes shape cards =
     are_axes axes && not (scales_otherwise old kind cards)
     && describes_array (reshaped_shape kind axes shape) (offset_of kind) (cards_reshaped old kind axes shape cards)
+
+-- how the pixels of an array of one kind are stored as those of another
+abbrev pub conversion_of : Kind → Kind → Conversion
+conversion_of old kind = record { from = width_of old; to = width_of kind; shift = offset_of old -ℤ offset_of kind }
+
+-- its pixels can be converted as they are read: it is an image of integers that nobody keeps stamped, of a large data unit none of which
+-- is in memory, and whose statistics say that each can be stored
+pub record StaysAway (kind : Kind) (one : HduState) : Type 0 where
+  pub free : one.kept ≡ false
+  pub old : Kind
+  pub is : kind_in one.header.shape one.header.header.cards ≡ Some old
+  pub can : CanConvert (conversion_of old kind) (unit_of one)
+
+-- its pixels are in memory, or can be converted to this kind as they are read, if it is an array of integers, with axes or without
+abbrev pub HasArray : Kind → HduState → Type 0
+HasArray kind one = (bits : ℕ) → array_bits one.header.shape ≡ Some bits → (one.absent ≡ None) ⊎ StaysAway kind one
 
 -- as many pixels stay as both arrays have
 abbrev pub kept_count : List ℕ → List ℕ → ℕ

@@ -9,7 +9,7 @@ use Rattle.fits_image.specs.Kind.{kind_in}
 use Rattle.fits_image.specs.declared.kind.Kind.{Kind}
 use Rattle.fits_plane.specs.Plane.{PlaneState}
 use Rattle.fits_plane.specs.Rectangle.{IsRectangle}
-use Rattle.fits_unit.specs.DataUnit.{Absence, unit_at, HasRectangle, IsCounted, IsKnown}
+use Rattle.fits_unit.specs.DataUnit.{Absence, unit_at, HasRectangle, IsCounted, IsKnown, UnitState}
 use Rattle.fits_passing.specs.ExtensionName.{extension_name}
 use Rattle.fits_passing.specs.Hdu.{HduParts}
 use Rattle.fits_passing.specs.declared.called.ExtensionName.{ExtensionName}
@@ -30,6 +30,10 @@ parts_of hdu = record { header = hdu.header.header; data_unit = hdu.plane.bytes 
 -- the HDU in a file of these bytes: where its data unit isn't known it is what the file has at its place
 abbrev pub hdu_at : List ℕ → HduState → HduState
 hdu_at told hdu = record hdu { plane = record hdu.plane { bytes = unit_at told hdu.plane.bytes hdu.absent } }
+
+-- its data unit, and where that lies
+abbrev pub unit_of : HduState → UnitState
+unit_of hdu = record { plane = hdu.plane; absent = hdu.absent }
 
 -- its data unit is known: in memory, or its bytes passed by
 abbrev pub IsSeen : HduState → Type 0

@@ -77,6 +77,7 @@ pub record IsFrom (place : ℕ) (hdu : HduState) (it : Absence) : Type 0 where
   pub place_is : it.place ≡ place
   pub passed : it.passed ≡ hdu.plane.bytes
   pub held : it.held ≡ []
+  pub origin : it.origin ≡ None
   pub blank : it.known ≡ true → it.blank ≡ hdu.plane.layout.blank
 
 -- an HDU was opened whose data unit lies there

@@ -9,6 +9,7 @@ use Rattle.fits_card.specs.declared.change.Change.TheVariants as changes
 use Rattle.fits_card.proofs.ChangeLemmas.{length-moved, length-spliced}
 use Rattle.fits_card.proofs.HeaderLemmas.{fill_length-by_cards, length-header_bytes}
 use Rattle.fits_pixels.specs.Layout.{block_count}
+use Rattle.fits_unit.specs.DataUnit.{unread_at}
 use Rattle.fits_rules.specs.Class.{is_primary}
 use Rattle.fits_rules.specs.Shape.{shape_of}
 use Rattle.fits_rules.proofs.SameShapeLemmas.{same_shape-Decides}
@@ -119,11 +120,11 @@ pub lasts_read : (old new : HduState) (count : ℕ) → IsDescribed old → Read
 lasts_read old new count described read = record { described = rw (read.header.header, read.header.shape) described; entry = read.entry; kept = read.kept; absent = read.absent }
 
 -- what is refused owes this
-pub makes_not : {X : Type 0} (stamps kept : Bool) (made : Result HduParts Refusal) (NeedsMemory : Option Refusal → Type 0) (reads : ℕ) (Works : PixelWork → PixelWork → Type 0) (bytes hdus : ℕ) (old new : HduState) (why : Refusal)
+pub makes_not : {X : Type 0} (stamps kept : Bool) (made : Result HduParts Refusal) (NeedsMemory : Option Refusal → Type 0) (reads : ℕ) (Works : PixelWork → PixelWork → Type 0) (Fixed : Type 0) (bytes hdus : ℕ) (old new : HduState) (why : Refusal)
     → IsHdu (is_primary old.header.shape.class) (parts_of old) → parts_of new ≡ parts_of old → old.header.reads ≤ new.header.reads → new.header.reads ≤ old.header.reads + reads → plane_work new.plane ≡ plane_work old.plane → new.header.room ≡ old.header.room → Lasts old new → Works (plane_work old.plane) (plane_work old.plane)
     → Fails (OrStampNeedsMemory stamps NeedsMemory) (within_refusal stamps bytes hdus (parts_of old) made) why
-    → HduMakes {X = X} stamps kept made NeedsMemory reads Works (λ before after. after ≡ before) bytes hdus old new (Err why)
-makes_not stamps kept made NeedsMemory reads Works bytes hdus old new why whole same least most idle room lasts none fails = record {
+    → HduMakes {X = X} stamps kept made NeedsMemory reads Works (λ before after. after ≡ before) Fixed bytes hdus old new (Err why)
+makes_not stamps kept made NeedsMemory reads Works Fixed bytes hdus old new why whole same least most idle room lasts none fails = record {
   whole = whole;
   left = subst (λ (hdu : HduParts). IsHdu (is_primary old.header.shape.class) hdu) (sym same) whole;
   accepted = tt;
@@ -142,15 +143,17 @@ makes_not stamps kept made NeedsMemory reads Works bytes hdus old new why whole 
   described = lasts.described;
   entry = lasts.entry;
   absent = lasts.absent;
+  unread = ap unread_at lasts.absent;
+  fixed = λ _. lasts.absent;
   had = had_same old new lasts.absent (ap (λ (hdu : HduParts). hdu.data_unit) same) lasts.kept;
 }
 
 -- what is made owes this, and the stamp that follows where the HDU is kept
-pub makes : {X : Type 0} (stamps : Bool) (made : Result HduParts Refusal) (NeedsMemory : Option Refusal → Type 0) (reads : ℕ) (Works Idles : PixelWork → PixelWork → Type 0) (bytes hdus : ℕ) (old mid new : HduState) (x : X)
+pub makes : {X : Type 0} (stamps : Bool) (made : Result HduParts Refusal) (NeedsMemory : Option Refusal → Type 0) (reads : ℕ) (Works Idles : PixelWork → PixelWork → Type 0) (Fixed : Type 0) (bytes hdus : ℕ) (old mid new : HduState) (x : X)
     → IsHdu (is_primary old.header.shape.class) (parts_of old) → IsHdu (is_primary old.header.shape.class) (parts_of mid) → made ≡ Ok (parts_of mid) → limit_refusal (length_with bytes (parts_of old) (padded_if stamps (parts_of mid))) hdus ≡ None
-    → old.header.reads ≤ mid.header.reads → mid.header.reads ≤ old.header.reads + reads → Works (plane_work old.plane) (plane_work mid.plane) → mid.entry ≡ old.entry → mid.kept ≡ stamps → StaysHad old mid → mid.absent ≡ old.absent → IsFinished stamps mid new
-    → HduMakes {X = X} stamps stamps made NeedsMemory reads Works Idles bytes hdus old new (Ok x)
-makes stamps made NeedsMemory reads Works Idles bytes hdus old mid new x whole left is limits least most works entry kept stays place f =
+    → old.header.reads ≤ mid.header.reads → mid.header.reads ≤ old.header.reads + reads → Works (plane_work old.plane) (plane_work mid.plane) → mid.entry ≡ old.entry → mid.kept ≡ stamps → StaysHad old mid → unread_at mid.absent ≡ unread_at old.absent → (Fixed → mid.absent ≡ old.absent) → IsFinished stamps mid new
+    → HduMakes {X = X} stamps stamps made NeedsMemory reads Works Idles Fixed bytes hdus old new (Ok x)
+makes stamps made NeedsMemory reads Works Idles Fixed bytes hdus old mid new x whole left is limits least most works entry kept stays place still f =
     let primary : Bool = is_primary old.header.shape.class in
     let short = finished_short stamps primary (parts_of mid) left in
     let long : length (hdu_bytes (parts_of new)) ≡ length (hdu_bytes (stamped_if stamps (parts_of mid))) = ap (λ (hdu : HduParts). length (hdu_bytes hdu)) f.hdu in
@@ -172,7 +175,9 @@ makes stamps made NeedsMemory reads Works Idles bytes hdus old mid new x whole l
       room = tt;
       described = f.described;
       entry = f.entry ∙ entry;
-      absent = f.absent ∙ place;
+      absent = tt;
+      unread = ap unread_at f.absent ∙ place;
+      fixed = λ fixed. f.absent ∙ still fixed;
       had = λ holding p. f.had holding (stays holding p);
     }
 
@@ -202,7 +207,7 @@ pub changes_not : {X : Type 0} (change : Change) (bytes hdus : ℕ) (old new : H
     → Fails (OrStampNeedsMemory old.kept (ChangeNeedsMemory change)) (within_refusal old.kept bytes hdus (parts_of old) (hdu_changed (is_primary old.header.shape.class) (parts_of old) (Ok change))) why → ChangesTo {X = X} change bytes hdus old new (Err why)
 changes_not change bytes hdus old new why whole same least most idle room lasts fails =
     let made : Result HduParts Refusal = hdu_changed (is_primary old.header.shape.class) (parts_of old) (Ok change) in
-    makes_not old.kept old.kept made (ChangeNeedsMemory change) (shape_reads old.header.shape + apply_reads) (BlankWork (is_primary old.header.shape.class) (parts_of old) made) bytes hdus old new why whole same least (omega (arith, most)) idle room lasts
+    makes_not old.kept old.kept made (ChangeNeedsMemory change) (shape_reads old.header.shape + apply_reads) (BlankWork (is_primary old.header.shape.class) (parts_of old) made) (Unit {0}) bytes hdus old new why whole same least (omega (arith, most)) idle room lasts
     (blank_none (is_primary old.header.shape.class) (parts_of old) made (plane_work old.plane)) fails
 
 -- one that is made owes this
@@ -216,11 +221,11 @@ changes_made change bytes hdus old mid new x whole described inner kept limits i
     let done = kept_made primary (parts_of old) change kept in
     let made : Result HduParts Refusal = hdu_changed primary (parts_of old) (Ok change) in
     let work : BlankWork primary (parts_of old) made (plane_work old.plane) (plane_work mid.plane) = rw (done, described, there) follows in
-    makes old.kept made (ChangeNeedsMemory change) (shape_reads old.header.shape + apply_reads) (BlankWork primary (parts_of old) made) (λ before after. after ≡ before) bytes hdus old mid new x whole
+    makes old.kept made (ChangeNeedsMemory change) (shape_reads old.header.shape + apply_reads) (BlankWork primary (parts_of old) made) (λ before after. after ≡ before) (Unit {0}) bytes hdus old mid new x whole
     (subst (λ (hdu : HduParts). IsHdu primary hdu) (sym is) (kept_whole primary (parts_of old) change whole inner kept))
     (done ∙ ap (λ (hdu : HduParts). let made : Result HduParts Refusal = Ok hdu in made) (sym is))
     (subst (λ (hdu : HduParts). limit_refusal (length_with bytes (parts_of old) (padded_if old.kept hdu)) hdus ≡ None) (sym is) limits)
-    least most work entry mark (had_same old mid place (ap (λ (hdu : HduParts). hdu.data_unit) is) mark) place finished
+    least most work entry mark (had_same old mid place (ap (λ (hdu : HduParts). hdu.data_unit) is) mark) (ap unread_at place) (λ _. place) finished
 
 -- memory may run out before the size is known
 needs_sized : (b : Bool) → CardsNeedMemory (if b then None else Some refusal.TooLarge)
@@ -300,7 +305,7 @@ unfolding hdu_made
 cards_unmade edit bytes hdus old new why whole described r fails takes =
     let primary : Bool = is_primary old.header.shape.class in
     let made : Result HduParts Refusal = hdu_changed primary (parts_of old) (change_of old.header.header.cards edit) in
-    makes_not old.kept old.kept made (CardEditNeedsMemory edit) (hdu_reads primary (Cards edit) (parts_of old)) (BlankWork primary (parts_of old) made) bytes hdus old new why whole (parts_read old new _ r) r.header.least (omega (arith, r.header.most)) (ap plane_work r.plane) r.header.room (lasts_read old new _ described r) (blank_none primary (parts_of old) made (plane_work old.plane)) (elim fails [
+    makes_not old.kept old.kept made (CardEditNeedsMemory edit) (hdu_reads primary (Cards edit) (parts_of old)) (BlankWork primary (parts_of old) made) (Unit {0}) bytes hdus old new why whole (parts_read old new _ r) r.header.least (omega (arith, r.header.most)) (ap plane_work r.plane) r.header.room (lasts_read old new _ described r) (blank_none primary (parts_of old) made (plane_work old.plane)) (elim fails [
       | inl e ↦ inl (ap (λ said. within_refusal old.kept bytes hdus (parts_of old) (hdu_changed primary (parts_of old) said)) e)
       | inr m ↦ inr (m.0, inl (needs_as edit _ (takes m.0) (needs_memory old.kept primary bytes hdus (parts_of old) (change_of old.header.header.cards edit) m.1)))
     ])
@@ -345,6 +350,8 @@ cards_made edit change bytes hdus old left new result described r made p =
       room = rw r.header.room at p.room;
       described = p.described;
       entry = p.entry ∙ r.entry;
-      absent = p.absent ∙ r.absent;
+      absent = rw r.absent at p.absent;
+      unread = p.unread ∙ ap unread_at r.absent;
+      fixed = λ fixed. p.fixed fixed ∙ r.absent;
       had = λ holding it. p.had holding (had_read old left _ r holding it);
     }

@@ -5,6 +5,7 @@ use Rattle.std.proofs.lemmas.List.{length-append}
 use Rattle.fits_card.specs.Header.{Header, header_bytes, header_length}
 use Rattle.fits_pixels.specs.Layout.{block_count}
 use Rattle.fits_plane.specs.Work.{rectangle_blocks}
+use Rattle.fits_unit.specs.DataUnit.{unread_at}
 use Rattle.fits_rules.specs.Class.{is_primary}
 use Rattle.fits_rules.specs.Shape.{shape_of}
 use Rattle.fits_rules.specs.declared.array_shape.Shape.{Shape}
@@ -58,7 +59,7 @@ unfolding hdu_made
 paints_not lo hi paint bytes hdus old new why whole described is same =
     let primary : Bool = is_primary old.header.shape.class in
     let reads : new.header.reads ≡ old.header.reads = ap (λ (state : HduState). state.header.reads) same in
-    makes_not old.kept old.kept (hdu_painted primary lo hi paint (parts_of old)) (HduNeedsMemory (Pixels lo hi paint)) 0 (HduWork primary (Pixels lo hi paint) (parts_of old)) bytes hdus old new (refusal_of_pixels why) whole (ap parts_of same) (omega (arith, reads)) (omega (arith, reads))
+    makes_not old.kept old.kept (hdu_painted primary lo hi paint (parts_of old)) (HduNeedsMemory (Pixels lo hi paint)) 0 (HduWork primary (Pixels lo hi paint) (parts_of old)) (Unit {0}) bytes hdus old new (refusal_of_pixels why) whole (ap parts_of same) (omega (arith, reads)) (omega (arith, reads))
     (ap (λ (state : HduState). plane_work state.plane) same)
     (ap (λ (state : HduState). state.header.room) same)
     (subst (λ (state : HduState). Lasts old state) (sym same) (record { described = described; entry = refl; kept = refl; absent = refl }))
@@ -73,7 +74,7 @@ unfolding hdu_made
 paints_unstamped lo hi paint bytes hdus old new made why whole described is fails same reads work room lasts =
     let primary : Bool = is_primary old.header.shape.class in
     let done : hdu_painted primary lo hi paint (parts_of old) ≡ Ok made = made_by primary old.header.shape (parts_of old) lo hi paint (Ok made) described is in
-    makes_not old.kept old.kept (hdu_painted primary lo hi paint (parts_of old)) (HduNeedsMemory (Pixels lo hi paint)) 0 (HduWork primary (Pixels lo hi paint) (parts_of old)) bytes hdus old new why whole same (omega (arith, reads)) (omega (arith, reads)) work room lasts
+    makes_not old.kept old.kept (hdu_painted primary lo hi paint (parts_of old)) (HduNeedsMemory (Pixels lo hi paint)) 0 (HduWork primary (Pixels lo hi paint) (parts_of old)) (Unit {0}) bytes hdus old new why whole same (omega (arith, reads)) (omega (arith, reads)) work room lasts
     (patches_none (shape_of primary old.header.header.cards) lo hi (parts_of old) (plane_work old.plane))
     (subst (λ m. Fails (OrStampNeedsMemory old.kept (HduNeedsMemory (Pixels lo hi paint))) (within_refusal old.kept bytes hdus (parts_of old) m) why) (sym done) fails)
 
@@ -113,9 +114,9 @@ unfolding hdu_made
 paints lo hi paint bytes hdus old mid new x whole described is limits reads patched entry kept place finished =
     let primary : Bool = is_primary old.header.shape.class in
     let change = painted_hdu primary old.header.shape (parts_of old) lo hi (plane_paint paint) (parts_of mid) whole described is in
-    makes old.kept (hdu_painted primary lo hi paint (parts_of old)) (HduNeedsMemory (Pixels lo hi paint)) 0 (HduWork primary (Pixels lo hi paint) (parts_of old)) (λ before after. after ≡ before) bytes hdus old mid new x whole change.0
+    makes old.kept (hdu_painted primary lo hi paint (parts_of old)) (HduNeedsMemory (Pixels lo hi paint)) 0 (HduWork primary (Pixels lo hi paint) (parts_of old)) (λ before after. after ≡ before) (Unit {0}) bytes hdus old mid new x whole change.0
     (made_by primary old.header.shape (parts_of old) lo hi paint (Ok (parts_of mid)) described is) limits (omega (arith, reads)) (omega (arith, reads))
-    (patches_by (shape_of primary old.header.header.cards) old.header.shape lo hi (parts_of old) (plane_work old.plane) (plane_work mid.plane) described patched) entry kept (had_long old mid place change.2 kept) place finished
+    (patches_by (shape_of primary old.header.header.cards) old.header.shape lo hi (parts_of old) (plane_work old.plane) (plane_work mid.plane) described patched) entry kept (had_long old mid place change.2 kept) (ap unread_at place) (λ _. place) finished
 
 -- a painted HDU that isn't kept keeps to the limits
 pub paint_within : (primary : Bool) (shape : Shape) (hdu made : HduParts) (lo hi : List ℕ) (paint : Paint) (bytes hdus : ℕ) → IsHdu primary hdu → shape_of primary hdu.header.cards ≡ Ok shape → painted shape lo hi (plane_paint paint) hdu ≡ Ok made → length (hdu_bytes hdu) ≤ bytes → is_within_limits bytes hdus ≡ true

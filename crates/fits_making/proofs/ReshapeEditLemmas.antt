@@ -4,6 +4,7 @@ use Rattle.std.specs.Prelude.{◌≢◌, Result, Ok, Err, if◌then◌else◌}
 use Rattle.std.specs.Option.{option_map}
 use Rattle.fits_card.specs.Header.{header_length}
 use Rattle.fits_pixels.specs.Layout.{block_count}
+use Rattle.fits_unit.specs.DataUnit.{unread_at}
 use Rattle.fits_rules.specs.Class.{is_primary}
 use Rattle.fits_rules.specs.Shape.{shape_of}
 use Rattle.fits_rules.specs.declared.array_shape.Shape.{Shape}
@@ -24,12 +25,12 @@ use Rattle.fits_making.specs.HduEdit.{made_or, hdu_made, hdu_reshaped, refusal_o
 use Rattle.fits_making.specs.Keeping.{padded_if, spare_cards}
 use Rattle.fits_passing.specs.Limits.{is_within_limits}
 use Rattle.fits_making.specs.Refusal.{limit_refusal, Fails, HduNeedsMemory, OrStampNeedsMemory, ReshapeNeedsMemory}
-use Rattle.fits_making.specs.Making.{length_with, unread, within_refusal, HduEditsTo, HduWork, IsFinished, IsIdle, ReshapesIn}
+use Rattle.fits_making.specs.Making.{length_with, unread, within_refusal, HduEditsTo, HduWork, HoldsArray, IsFinished, IsIdle, ReshapesIn, StaysHad}
 use Rattle.fits_making.specs.Work.{hdu_reads, reads_to_reshape}
 use Rattle.fits_edit.specs.declared.hdu_edit.HduEdit.TheVariants.{Reshape}
 use Rattle.fits_passing.specs.declared.limits.TheConstants.{FILE_LIMIT}
 use Rattle.fits_making.specs.declared.refusal.Refusal.TheVariants as refusal
-use Rattle.fits_making.proofs.HadLemmas.{had_held, had_same}
+use Rattle.fits_making.proofs.HadLemmas.{had_same}
 use Rattle.fits_making.proofs.KeepingLemmas.{padded_long}
 use Rattle.fits_making.proofs.MakingLemmas.{Lasts, fits, fits_not, kept_limits, makes, not_within, within_limits}
 
@@ -202,6 +203,8 @@ reshapes_not kind axes bytes hdus most spare old new why whole described e part 
       described = lasts.described;
       entry = lasts.entry;
       absent = lasts.absent;
+      unread = ap unread_at lasts.absent;
+      fixed = λ _. lasts.absent;
       had = had_same old new lasts.absent (ap (λ (hdu : HduParts). hdu.data_unit) same) lasts.kept;
     }
 
@@ -213,14 +216,14 @@ read_none kept work = record { more_reads = omega arith; reads = omega arith; sc
 pub reshapes : {X : Type 0} (kind : Kind) (axes : List ℕ) (bytes hdus most spare : ℕ) (old mid new : HduState) (x : X) → IsHdu (is_primary old.header.shape.class) (parts_of old) → shape_of (is_primary old.header.shape.class) old.header.header.cards ≡ Ok old.header.shape
     → spare ≡ spare_cards old.kept → length (hdu_bytes (parts_of old)) ≤ bytes → is_within_limits bytes hdus ≡ true → most + (bytes - length (hdu_bytes (parts_of old))) ≡ FILE_LIMIT → reshaped kind axes old.header.shape (parts_of old) ≡ Ok (parts_of mid) → length_spared spare (parts_of mid) ≤ most
     → old.header.reads ≤ mid.header.reads → mid.header.reads ≤ old.header.reads + reshape_reads (array_kind old.header.shape old.header.header.cards) kind axes old.header.header.cards
-    → IsRenewed (kept_count old.header.shape.axes axes) (block_count mid.plane.bytes) (plane_work old.plane) (plane_work mid.plane) → mid.entry ≡ old.entry → mid.kept ≡ old.kept → mid.absent ≡ None → mid.absent ≡ old.absent → IsFinished old.kept mid new → HduEditsTo {X = X} (Reshape kind axes) bytes hdus old new (Ok x)
+    → IsRenewed (kept_count old.header.shape.axes axes) (block_count mid.plane.bytes) (plane_work old.plane) (plane_work mid.plane) → mid.entry ≡ old.entry → mid.kept ≡ old.kept → StaysHad old mid → unread_at mid.absent ≡ unread_at old.absent → (HoldsArray old → mid.absent ≡ old.absent) → IsFinished old.kept mid new → HduEditsTo {X = X} (Reshape kind axes) bytes hdus old new (Ok x)
 unfolding hdu_made
-reshapes kind axes bytes hdus most spare old mid new x whole described e part within is ok small least few renewed entry kept held place finished =
+reshapes kind axes bytes hdus most spare old mid new x whole described e part within is ok small least few renewed entry kept stays place still finished =
     let primary : Bool = is_primary old.header.shape.class in
     let left = (reshaped_is_hdu primary kind axes old.header.shape (parts_of old) (parts_of mid) whole described ok).0 in
     let made : hdu_reshaped (shape_of primary old.header.header.cards) kind axes (parts_of old) ≡ Ok (parts_of mid) = made_by (shape_of primary old.header.header.cards) old.header.shape kind axes (parts_of old) described ∙ ap reshape_made ok in
-    makes old.kept (hdu_reshaped (shape_of primary old.header.header.cards) kind axes (parts_of old)) (HduNeedsMemory (Reshape kind axes)) (hdu_reads primary (Reshape kind axes) (parts_of old)) (HduWork primary (Reshape kind axes) (parts_of old)) (IsIdle (Reshape kind axes)) bytes hdus old mid new x whole left made
+    makes old.kept (hdu_reshaped (shape_of primary old.header.header.cards) kind axes (parts_of old)) (HduNeedsMemory (Reshape kind axes)) (hdu_reads primary (Reshape kind axes) (parts_of old)) (HduWork primary (Reshape kind axes) (parts_of old)) (IsIdle (Reshape kind axes)) (HoldsArray old) bytes hdus old mid new x whole left made
     (short_enough old.kept primary bytes hdus most spare (parts_of old) (parts_of mid) left e part is within small) least (omega (arith, few, reads_are primary old.header.shape kind axes (parts_of old) described))
     (renews_by (shape_of primary old.header.header.cards) old.header.shape axes (made_or (parts_of old) (hdu_reshaped (shape_of primary old.header.header.cards) kind axes (parts_of old))) (plane_work old.plane) (plane_work mid.plane) described
     (subst (λ (hdu : HduParts). IsRenewed (kept_count old.header.shape.axes axes) (block_count hdu.data_unit) (plane_work old.plane) (plane_work mid.plane)) (sym (ap (made_or (parts_of old)) made)) renewed))
-    entry kept (λ holding p. had_held holding mid held) place finished
+    entry kept stays place still finished

@@ -6,7 +6,7 @@ use Rattle.fits_rules.specs.Class.{is_primary}
 use Rattle.fits_passing.specs.Hdu.{HduParts, hdu_bytes, IsHdu}
 use Rattle.fits_hdu.specs.Stamp.{stamped}
 use Rattle.fits_hdu.specs.State.{HduState, parts_of, IsSeen}
-use Rattle.fits_unit.specs.DataUnit.{IsKnown}
+use Rattle.fits_unit.specs.DataUnit.{unread_at}
 use Rattle.fits_passing.specs.Sums.{verdicts_of}
 use Rattle.fits_hdu.specs.Work.{plane_work, stamp_count_reads, stamp_reads}
 use Rattle.fits_hdu.proofs.StampingLemmas.{stamped_is_hdu, stamped_unit}
@@ -29,7 +29,7 @@ pub stamps_not : {X : Type 0} (bytes hdus : ℕ) (old new : HduState) (why : Ref
     → Fails (λ refused. refused ≡ None) (limit_refusal (length_with bytes (parts_of old) (stamped (parts_of old))) hdus) why → HduEditsTo {X = X} Stamp bytes hdus old new (Err why)
 unfolding hdu_made
 stamps_not bytes hdus old new why whole same least most idle room lasts fails =
-    makes_not false old.kept (Ok (stamped (parts_of old))) (HduNeedsMemory Stamp) (stamp_count_reads old.header.header.cards + stamp_reads old.header.header.cards) (BlankWork (is_primary old.header.shape.class) (parts_of old) (Ok (stamped (parts_of old)))) bytes hdus old new why whole same least most idle room lasts
+    makes_not false old.kept (Ok (stamped (parts_of old))) (HduNeedsMemory Stamp) (stamp_count_reads old.header.header.cards + stamp_reads old.header.header.cards) (BlankWork (is_primary old.header.shape.class) (parts_of old) (Ok (stamped (parts_of old)))) (Unit {0}) bytes hdus old new why whole same least most idle room lasts
     (record { same = λ e. refl; any = inl refl }) (elim fails [
       | inl test ↦ inl test
       | inr memory ↦ inr (memory.0, inl memory.1)
@@ -60,7 +60,9 @@ stamps bytes hdus old new x whole within is least most idle lasts =
       room = tt;
       described = lasts.described;
       entry = lasts.entry;
-      absent = lasts.absent;
+      absent = tt;
+      unread = ap unread_at lasts.absent;
+      fixed = λ _. lasts.absent;
       had = had_same old new lasts.absent (ap (λ (hdu : HduParts). hdu.data_unit) is ∙ stamped_unit (parts_of old)) lasts.kept;
     }
 
@@ -86,11 +88,13 @@ keeps_not bytes hdus old new why p = record {
   described = p.described;
   entry = p.entry;
   absent = p.absent;
+  unread = p.unread;
+  fixed = p.fixed;
   had = p.had;
 }
 
 -- one that is stamped may be kept, and its sums are right
-pub keeps : {X : Type 0} (bytes hdus : ℕ) (old mid new : HduState) (x : X) → IsSeen old → HduEditsTo {X = X} Stamp bytes hdus old mid (Ok x) → new ≡ record mid { kept = true } → HduEditsTo {X = X} Keep bytes hdus old new (Ok x)
+pub keeps : {X : Type 0} (bytes hdus : ℕ) (old mid new : HduState) (x : X) → IsSeen mid → HduEditsTo {X = X} Stamp bytes hdus old mid (Ok x) → new ≡ record mid { kept = true } → HduEditsTo {X = X} Keep bytes hdus old new (Ok x)
 unfolding hdu_made
 keeps bytes hdus old mid new x known p is =
     let stamp : parts_of mid ≡ stamped (parts_of old) = let made = p.ok in (cc) in
@@ -112,8 +116,10 @@ keeps bytes hdus old mid new x known p is =
       room = tt;
       described = p.described;
       entry = p.entry;
-      absent = p.absent;
-      had = λ holding it. let left = p.had holding it in record { held = left.held; lies = left.lies; kept = λ on. subst IsKnown (sym p.absent) known };
+      absent = tt;
+      unread = p.unread;
+      fixed = p.fixed;
+      had = λ holding it. let left = p.had holding it in record { held = left.held; lies = left.lies; kept = λ on. known };
     } in
     subst (λ (hdu : HduState). HduEditsTo Keep bytes hdus old hdu (Ok x)) (sym is) made
 
@@ -142,7 +148,9 @@ releases bytes hdus old new x whole lasts part within is =
       room = tt;
       described = lasts.described;
       entry = refl;
-      absent = refl;
+      absent = tt;
+      unread = refl;
+      fixed = λ _. refl;
       had = λ holding it. record { held = it.held; lies = it.lies; kept = λ on. cc };
     } in
     subst (λ (hdu : HduState). HduEditsTo Release bytes hdus old hdu (Ok x)) (sym is) made

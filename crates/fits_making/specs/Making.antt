@@ -4,7 +4,7 @@ use Rattle.fits_card.specs.declared.change.Change.{Change}
 use Rattle.fits_rules.specs.Class.{is_primary}
 use Rattle.fits_pixels.specs.Layout.{block_count}
 use Rattle.fits_plane.specs.Work.{rectangle_blocks}
-use Rattle.fits_unit.specs.DataUnit.{LiesIn}
+use Rattle.fits_unit.specs.DataUnit.{unread_at, LiesIn}
 use Rattle.fits_rules.specs.Image.{array_bits}
 use Rattle.fits_rules.specs.Shape.{shape_of}
 use Rattle.fits_rules.specs.declared.array_shape.Shape.{Shape}
@@ -12,7 +12,7 @@ use Rattle.fits_passing.specs.Hdu.{HduParts, hdu_bytes, IsHdu}
 use Rattle.fits_header.specs.Work.{shape_reads}
 use Rattle.fits_passing.specs.Layout.{layout_of}
 use Rattle.fits_hdu.specs.State.{HduState, parts_of, IsDescribed, HasPixels, IsSeen}
-use Rattle.fits_hdu.specs.Reshape.{kept_count}
+use Rattle.fits_hdu.specs.Reshape.{kept_count, HasArray}
 use Rattle.fits_passing.specs.Work.{apply_reads}
 use Rattle.fits_hdu.specs.Work.{plane_work, FollowsBlank, IsPatched, IsRenewed, PixelWork}
 use Rattle.fits_making.specs.HduEdit.{made_or, hdu_changed, hdu_made}
@@ -79,18 +79,23 @@ IsIdle edit old new = new ≡ old
 abbrev pub StaysHad : HduState → HduState → Type 0
 StaysHad old new = (holding : Holding) → IsHad holding old → IsHad holding new
 
--- it is, if it is an array of integers, with axes or without
-abbrev pub HasArray : HduState → Type 0
-HasArray one = (bits : ℕ) → array_bits one.header.shape ≡ Some bits → one.absent ≡ None
-
--- the pixels that an edit of an HDU wants are in memory: those of an image, and for a reshape those of an array; for a stamp its data are
--- known
+-- the pixels that an edit of an HDU wants are in memory: those of an image, and for a reshape those of an array, unless they can be
+-- converted as they are read; for a stamp its data are known
 abbrev pub IsReadyTo : HduEdit → HduState → Type 0
 IsReadyTo (Pixels lo hi paint) one = HasPixels lo hi one
-IsReadyTo (Reshape kind axes) one = HasArray one
+IsReadyTo (Reshape kind axes) one = HasArray kind one
 IsReadyTo Stamp one = IsSeen one
 IsReadyTo Keep one = IsSeen one
 IsReadyTo edit one = Unit {0}
+
+-- an array is in memory, with axes or without
+abbrev pub HoldsArray : HduState → Type 0
+HoldsArray one = (bits : ℕ) → array_bits one.header.shape ≡ Some bits → one.absent ≡ None
+
+-- an edit leaves known what is, and in memory: the array that it makes another is there
+abbrev pub KeepsSeen : HduEdit → HduState → Type 0
+KeepsSeen (Reshape kind axes) one = HoldsArray one
+KeepsSeen edit one = Unit {0}
 
 -- how many bytes a file of so many has with another HDU in place of one
 abbrev pub length_with : ℕ → HduParts → HduParts → ℕ
@@ -105,8 +110,8 @@ within_refusal stamps bytes hdus hdu (Ok made) = limit_refusal (length_with byte
 -- what is made of an HDU, where a stamp follows or not, owes, in a file of so many bytes and HDUs: it is made and stamped where no test
 -- fails, keeps to the limits, and is kept then or not; else it is as before, and the refusal is the first test's that fails, or memory's;
 -- a refused one is idle and keeps no room; its cards describe the shape that is kept, its entry stays, and where it is kept both sums are
--- right
-pub record HduMakes {X : Type 0} (stamps kept : Bool) (made : Result HduParts Refusal) (NeedsMemory : Option Refusal → Type 0) (reads : ℕ) (Works Idles : PixelWork → PixelWork → Type 0) (bytes hdus : ℕ) (old new : HduState) (result : Result X Refusal) : Type 0 where
+-- right; what is to be read yet stays so, and where it is fixed, all stays where it is
+pub record HduMakes {X : Type 0} (stamps kept : Bool) (made : Result HduParts Refusal) (NeedsMemory : Option Refusal → Type 0) (reads : ℕ) (Works Idles : PixelWork → PixelWork → Type 0) (Fixed : Type 0) (bytes hdus : ℕ) (old new : HduState) (result : Result X Refusal) : Type 0 where
   pub whole : IsHdu (is_primary old.header.shape.class) (parts_of old)
   pub left : IsHdu (is_primary old.header.shape.class) (parts_of new)
   pub accepted : OnOk result (within_refusal stamps bytes hdus (parts_of old) made ≡ None)
@@ -124,7 +129,9 @@ pub record HduMakes {X : Type 0} (stamps kept : Bool) (made : Result HduParts Re
   pub room : OnErr result (new.header.room ≡ old.header.room)
   pub described : IsDescribed new
   pub entry : new.entry ≡ old.entry
-  pub absent : new.absent ≡ old.absent
+  pub absent : OnErr result (new.absent ≡ old.absent)
+  pub unread : unread_at new.absent ≡ unread_at old.absent
+  pub fixed : Fixed → new.absent ≡ old.absent
   pub had : StaysHad old new
 
 -- the stamp was made that follows an edit of an HDU, where one does; else it is as the edit left it
@@ -143,11 +150,11 @@ pub record IsFinished (stamps : Bool) (old new : HduState) : Type 0 where
 abbrev pub HduEditsTo : {X : Type 0} → HduEdit → (bytes hdus : ℕ) (old new : HduState) → Result X Refusal → Type 0
 HduEditsTo edit bytes hdus old new result =
     let primary : Bool = is_primary old.header.shape.class in
-    HduMakes (stamp_follows edit old.kept) (kept_after edit old.kept) (hdu_made primary edit (parts_of old)) (HduNeedsMemory edit) (hdu_reads primary edit (parts_of old)) (HduWork primary edit (parts_of old)) (IsIdle edit) bytes hdus old new result
+    HduMakes (stamp_follows edit old.kept) (kept_after edit old.kept) (hdu_made primary edit (parts_of old)) (HduNeedsMemory edit) (hdu_reads primary edit (parts_of old)) (HduWork primary edit (parts_of old)) (IsIdle edit) (KeepsSeen edit old) bytes hdus old new result
 
 -- and so does a change of its cards
 abbrev pub ChangesTo : {X : Type 0} → Change → (bytes hdus : ℕ) (old new : HduState) → Result X Refusal → Type 0
 ChangesTo change bytes hdus old new result =
     let primary : Bool = is_primary old.header.shape.class in
     let made : Result HduParts Refusal = hdu_changed primary (parts_of old) (Ok change) in
-    HduMakes old.kept old.kept made (ChangeNeedsMemory change) (shape_reads old.header.shape + apply_reads) (BlankWork primary (parts_of old) made) (λ before after. after ≡ before) bytes hdus old new result
+    HduMakes old.kept old.kept made (ChangeNeedsMemory change) (shape_reads old.header.shape + apply_reads) (BlankWork primary (parts_of old) made) (λ before after. after ≡ before) (Unit {0}) bytes hdus old new result

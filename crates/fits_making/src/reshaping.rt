@@ -3,7 +3,8 @@ ghost use Rattle.std.specs.Prelude.{◌≡◌, ◌≤◌, true, length};
 ghost use Rattle.fits_passing.specs.Hdu.{hdu_bytes};
 ghost use Rattle.fits_hdu.specs.State.{parts_of, IsSeen};
 ghost use Rattle.fits_passing.specs.Limits.{is_within_limits};
-ghost use Rattle.fits_making.specs.Making.{HasArray, HduEditsTo};
+ghost use Rattle.fits_hdu.specs.Reshape.{HasArray};
+ghost use Rattle.fits_making.specs.Making.{HduEditsTo};
 
 use crate::keeping::{finish, spare_cards, stamp_cards};
 use crate::making::hdu_len;
@@ -24,7 +25,7 @@ pub(crate) fn reshape(
     kind: Kind,
     axes: &Axes,
 ) -> Result<(), Refusal>
-    requires held { HasArray hdu.old }
+    requires held { HasArray kind hdu.old }
     requires known { hdu.old.kept ≡ true → IsSeen hdu.old }
     requires part { length (hdu_bytes (parts_of hdu.old)) ≤ len }
     requires within { is_within_limits len hdus ≡ true }

@@ -16,7 +16,8 @@ pub(crate) fn stamp(alloc: Global, hdu: &mut Hdu, len: u64, hdus: u64) -> Result
     requires known { IsSeen hdu.old }
     requires part { length (hdu_bytes (parts_of hdu.old)) ≤ len }
     requires within { is_within_limits len hdus ≡ true }
-    ensures { HduEditsTo HduEdit.Stamp len hdus hdu.old hdu.new result }
+    ensures edits { HduEditsTo HduEdit.Stamp len hdus hdu.old hdu.new result }
+    ensures absent { hdu.new.absent ≡ hdu.old.absent }
 {
     let before = hdu.card_count();
     let after = hdu.count_stamped();

@@ -1,22 +1,23 @@
 -- Pixels stored anew: the bytes that they make, and the values that stay.
-use Rattle.std.proofs.Common.{Bool, List, None, Some, [], ap, append_assoc, arith, false, get_or, inl, inr, length, refl, replicate, slice_index, subst, suc, sym, true, zero, ℕ, ℤ, ◌%◌, ◌*◌, ◌++◌, ◌+◌, ◌-◌, ◌/◌, ◌<◌, ◌∙◌, ◌∷◌, ◌≡◌, ◌≢◌, ◌≤◌, ◌⊎◌}
+use Rattle.std.proofs.Common.{Bool, List, None, Some, [], ap, append_assoc, arith, false, get_or, inl, inr, length, refl, replicate, slice_index, subst, suc, sym, true, zero, ℕ, ℤ, ◌%◌, ◌*◌, ◌++◌, ◌+◌, ◌-◌, ◌/◌, ◌<◌, ◌∙◌, ◌∷◌, ◌≡◌, ◌≢◌, ◌≤◌, ◌^◌, ◌⊎◌}
 use Rattle.std.proofs.Math.Nat.{div-add-mod, div-lt_iff_lt-mul, le-div_iff_mul-le, mod-lt, mul-le-mul_right}
 use Rattle.std.proofs.lemmas.Bool.{and_from, and_parts, cases_eq, cases_lt, cond-false, cond-true}
+use Rattle.std.proofs.lemmas.Bool.Decides.{nat_tests}
 use Rattle.std.proofs.lemmas.Int.{ints}
 use Rattle.std.proofs.lemmas.List.{ext_get_or, get_or-append_right, get_or-map, get_or_append_left, get_or_past, length-append, length-map, length-replicate}
 use Rattle.std.proofs.lemmas.List.Elements.{All-get_or}
 use Rattle.std.specs.Int.{w64}
 use Rattle.std.specs.List.{flat_map, list_all}
 use Rattle.std.specs.Prelude.{IsTrue, pos, ◌+ℤ◌, ◌-ℤ◌, ◌↔◌}
-use Rattle.byteorder.specs.Endian.{low_bytes}
-use Rattle.byteorder.specs.Numbers.{length-bytes_high_first}
+use Rattle.byteorder.specs.Endian.{big_from, low_bytes}
+use Rattle.byteorder.specs.Numbers.{big_from-lt, length-bytes_high_first}
 use Rattle.fits_pixels.proofs.LaneLemmas.{more}
 use Rattle.fits_pixels.proofs.LayoutLemmas.{block_pixels_some, pixels_room}
 use Rattle.fits_pixels.proofs.PixelLemmas.{by_width, length-pixels, pixel-same, width_range}
 use Rattle.fits_pixels.proofs.TestLemmas.{can_store_decides, same_test}
 use Rattle.fits_pixels.specs.Layout.{IsLayout, block_pixels}
 use Rattle.fits_pixels.specs.Block.{block_numbers, held}
-use Rattle.fits_pixels.specs.Pixels.{IsStorable, IsWidth, can_store, pixel, pixels, stored_bytes}
+use Rattle.fits_pixels.specs.Pixels.{IsStorable, IsWidth, can_store, greatest_stored, least_stored, pixel, pixels, stored_bytes, stored_number}
 use Rattle.fits_pixels.specs.declared.layout.Layout.{Layout}
 use Rattle.fits_plane.proofs.RectangleLemmas.{pixel_bytes, pixel_of_bytes}
 use Rattle.fits_plane.proofs.WriteLemmas.{pixel_away, pixel_kept}
@@ -186,23 +187,37 @@ kept_decides ow v w n shift xs ys b p q means = subst (λ zs. b ≡ can_store_ru
 pub run_made_none : (w : ℕ) (zs : List ℤ) (len : ℕ) (b : Bool) → b ≡ false → b ≡ can_store_run w zs → None ≡ run_made w zs len
 run_made_none w zs len b fails e = sym (cond-false _ _ _ (sym e ∙ fails))
 
--- zero bytes in which the kept pixels were stored
+-- each kept number can be stored where the test says so
+pub kept_storable : (ow w n : ℕ) (shift : ℤ) (xs : List ℕ) → can_store_run w (kept_numbers ow xs n shift) ≡ true → (x : ℕ) → x < n → IsStorable w (pixel ow xs x +ℤ shift)
+kept_storable ow w n shift xs e x b =
+    let near : x < length (kept_numbers ow xs n shift) = omega (arith, b, length-kept_numbers ow n shift xs) in
+    subst (IsStorable w) (kept_numbers-at ow n x shift xs b) ((can_store_run_decides w (kept_numbers ow xs n shift)).0 e x near)
+
+-- zero bytes in which the kept pixels were stored are those that are written
+pub run_stored : (ow w n len : ℕ) (shift : ℤ) (xs blank made : List ℕ) → IsWidth w → n * w ≤ len → blank ≡ replicate len 0 → length made ≡ length blank
+    → ((x : ℕ) → x < n → pixel w made x ≡ pixel ow xs x +ℤ shift) → ((j : ℕ) → n * w ≤ j → slice_index made j ≡ slice_index blank j)
+    → ((k : ℕ) → slice_index made k < 256) → made ≡ run_written w (kept_numbers ow xs n shift) len
+run_stored ow w n len shift xs blank made h room zeros long inside outside small =
+    let numbers : List ℤ = kept_numbers ow xs n shift in
+    let many : length numbers ≡ n = length-kept_numbers ow n shift xs in
+    let turn = ap (λ m. m * w) many in
+    run_is w numbers len made h (omega (arith, turn, room)) small (record {
+      long = long ∙ ap length zeros ∙ length-replicate {A = ℕ} len 0;
+      inside = λ i c. let near : i < n = omega (arith, c, many) in inside i near ∙ sym (kept_numbers-at ow n i shift xs near);
+      outside = λ j c. outside j (omega (arith, turn, c)) ∙ ap (λ zs. slice_index zs j) zeros ∙ zero_byte len j;
+    })
+
+-- the same of a run that may not have passed
 pub run_made_some : (ow v w n len : ℕ) (shift : ℤ) (xs ys blank new made : List ℕ) (b : Bool) → ow ≡ v → xs ≡ ys → IsWidth w → n * w ≤ len
     → b ≡ true → b ≡ can_store_run w (kept_numbers v ys n shift) → blank ≡ replicate len 0 → length new ≡ length blank
     → ((x : ℕ) → x < n → pixel w new x ≡ pixel ow xs x +ℤ shift) → ((j : ℕ) → n * w ≤ j → slice_index new j ≡ slice_index blank j)
     → made ≡ new → ((k : ℕ) → slice_index made k < 256)
     → Some made ≡ run_made w (kept_numbers v ys n shift) len
 run_made_some ow v w n len shift xs ys blank new made b p q h room passes e zeros long inside outside same small =
-    let numbers : List ℤ = kept_numbers v ys n shift in
-    let many : length numbers ≡ n = length-kept_numbers v n shift ys in
-    let turn = ap (λ m. m * w) many in
-    let is : made ≡ run_written w numbers len = run_is w numbers len made h (omega (arith, turn, room)) small (record {
-      long = ap length same ∙ long ∙ ap length zeros ∙ length-replicate {A = ℕ} len 0;
-      inside = λ i c.
-          let near : i < n = omega (arith, c, many) in
-          ap (λ zs. pixel w zs i) same ∙ inside i near ∙ ap (λ zs. pixel ow zs i +ℤ shift) q ∙ ap (λ m. pixel m ys i +ℤ shift) p ∙ sym (kept_numbers-at v n i shift ys near);
-      outside = λ j c. ap (λ zs. slice_index zs j) same ∙ outside j (omega (arith, turn, c)) ∙ ap (λ zs. slice_index zs j) zeros ∙ zero_byte len j;
-    }) in
+    let is : made ≡ run_written w (kept_numbers v ys n shift) len =
+    run_stored v w n len shift ys blank made h room zeros (ap length same ∙ long)
+    (λ x c. ap (λ zs. pixel w zs x) same ∙ inside x c ∙ ap (λ zs. pixel ow zs x +ℤ shift) q ∙ ap (λ m. pixel m ys x +ℤ shift) p)
+    (λ j c. ap (λ zs. slice_index zs j) same ∙ outside j c) small in
     ap Some is ∙ sym (cond-true _ _ _ (sym e ∙ passes))
 
 -- the first x pixels are stored
@@ -297,6 +312,14 @@ pub storable_so : (v v' w w' n : ℕ) (s s' : ℤ) (xs : List ℕ) → v ≡ v' 
 storable_so v v' w w' n s s' xs p q r h x b =
     subst (λ m. IsStorable m (pixel v' xs x +ℤ s')) q (subst (λ m. IsStorable w (pixel m xs x +ℤ s')) p (subst (λ u. IsStorable w (pixel v xs x +ℤ u)) r (h x b)))
 
+-- and a test of them
+pub decides_so : (v v' w n : ℕ) (s s' : ℤ) (xs : List ℕ) (b : Bool) → v ≡ v' → s ≡ s'
+    → (IsTrue b ↔ ((x : ℕ) → x < n → IsStorable w (pixel v xs x +ℤ s))) → (IsTrue b ↔ ((x : ℕ) → x < n → IsStorable w (pixel v' xs x +ℤ s')))
+decides_so v v' w n s s' xs b p q means = (
+  λ t. storable_so v v' w w n s s' xs p refl q (means.0 t),
+  λ all. means.1 (storable_so v' v w w n s' s xs (sym p) refl (sym q) all),
+)
+
 -- and those that were stored
 pub stored_so : (v v' w w' n : ℕ) (s s' : ℤ) (xs ys : List ℕ) → v ≡ v' → w ≡ w' → s ≡ s'
     → ((x : ℕ) → x < n → pixel w ys x ≡ pixel v xs x +ℤ s) → (x : ℕ) → x < n → pixel w' ys x ≡ pixel v' xs x +ℤ s'
@@ -306,3 +329,32 @@ stored_so v v' w w' n s s' xs ys p q r h x b =
 -- as many pixels as the whole blocks have
 pub whole_blocks : (n per : ℕ) → 0 < per → n / per * per ≤ n
 whole_blocks n per some = (le-div_iff_mul-le some).0 (omega arith)
+
+-- ---- numbers of a width
+
+-- a pixel's bits stand for a number that it can store
+bits_storable : (w u : ℕ) → IsWidth w → u < 256 ^ w → IsStorable w (stored_number w u)
+bits_storable w u h = by_width (λ w. u < 256 ^ w → IsStorable w (stored_number w u))
+    (λ b. record { least = grind (arith, ints, nat_tests); greatest = grind (arith, ints, nat_tests) })
+    (λ b. record { least = grind (arith, ints, nat_tests); greatest = grind (arith, ints, nat_tests) })
+    (λ b. record { least = grind (arith, ints, nat_tests); greatest = grind (arith, ints, nat_tests) })
+    (λ b. record { least = grind (arith, ints, nat_tests); greatest = grind (arith, ints, nat_tests) }) w h
+
+-- a pixel can store the number that it has
+pub pixel_storable : (w i : ℕ) (xs : List ℕ) → IsWidth w → ((k : ℕ) → slice_index xs k < 256) → IsStorable w (pixel w xs i)
+pixel_storable w i xs h small = bits_storable w (big_from (i * w) w xs) h (big_from-lt (i * w) w xs small)
+
+-- the least and the greatest number of a width can be stored
+pub ends_storable : (w : ℕ) → IsWidth w → IsStorable w (least_stored w) × IsStorable w (greatest_stored w)
+ends_storable w h = by_width (λ w. IsStorable w (least_stored w) × IsStorable w (greatest_stored w))
+    (record { least = omega (arith, ints); greatest = omega (arith, ints) }, record { least = omega (arith, ints); greatest = omega (arith, ints) })
+    (record { least = omega (arith, ints); greatest = omega (arith, ints) }, record { least = omega (arith, ints); greatest = omega (arith, ints) })
+    (record { least = omega (arith, ints); greatest = omega (arith, ints) }, record { least = omega (arith, ints); greatest = omega (arith, ints) })
+    (record { least = omega (arith, ints); greatest = omega (arith, ints) }, record { least = omega (arith, ints); greatest = omega (arith, ints) }) w h
+
+-- a number between two that can be stored with the shift can be too
+pub between_storable : (w from : ℕ) (shift z : ℤ) → IsStorable w (least_stored from +ℤ shift) → IsStorable w (greatest_stored from +ℤ shift) → IsStorable from z → IsStorable w (z +ℤ shift)
+between_storable w from shift z low high s = record {
+  least = omega (arith, ints, low.least, s.least);
+  greatest = omega (arith, ints, high.greatest, s.greatest);
+}

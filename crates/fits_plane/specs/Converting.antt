@@ -1,7 +1,8 @@
 -- Pixels stored anew, at another width and with another offset (FITS Standard 4.0, 3.3.2 and 4.4.2.5; own).
 use Rattle.std.specs.List.{flat_map, list_all}
-use Rattle.std.specs.Prelude.{All, Bool, IsTrue, List, None, Option, Some, if◌then◌else◌, length, map, pos, replicate, slice_index, slice_index_or, true, ℕ, ℤ, ◌*◌, ◌++◌, ◌+ℤ◌, ◌-ℤ◌, ◌-◌, ◌<◌, ◌↔◌, ◌≡◌, ◌≤◌}
+use Rattle.std.specs.Prelude.{unsigned_abs, All, Bool, IsTrue, List, None, Option, Some, if◌then◌else◌, length, map, pos, replicate, slice_index, slice_index_or, true, ℕ, ℤ, ◌*◌, ◌++◌, ◌+ℤ◌, ◌-ℤ◌, ◌-◌, ◌<◌, ◌↔◌, ◌≡◌, ◌≤◌, ◌^◌}
 use Rattle.fits_pixels.specs.Pixels.{IsStorable, IsWidth, can_store, pixel, pixels, stored_bytes}
+use Rattle.fits_plane.specs.declared.conversion.Conversion.{Conversion}
 
 -- the first n stored numbers, each with the shift: the old offset less the new one
 abbrev pub kept_numbers : ℕ → List ℕ → ℕ → ℤ → List ℤ
@@ -26,6 +27,20 @@ run_written width numbers len =
 abbrev pub run_made : ℕ → List ℤ → ℕ → Option (List ℕ)
 run_made width numbers len =
     if can_store_run width numbers then Some (run_written width numbers len) else None
+
+-- pixels can be stored anew so: both widths are pixels', and the shift is no further from 0 than 2^64
+pub record IsConversion (it : Conversion) : Type 0 where
+  pub from : IsWidth it.from
+  pub to : IsWidth it.to
+  pub shift : unsigned_abs it.shift ≤ 2 ^ 64
+
+-- can the first n pixels of some bytes be?
+abbrev pub can_store_anew : Conversion → ℕ → List ℕ → Bool
+can_store_anew it n bytes = can_store_run it.to (kept_numbers it.from bytes n it.shift)
+
+-- they are, one after the other, and zero bytes stand behind them up to so many bytes
+abbrev pub stored_anew : Conversion → ℕ → ℕ → List ℕ → List ℕ
+stored_anew it n len bytes = run_written it.to (kept_numbers it.from bytes n it.shift) len
 
 -- so many bytes, whose first pixels have the numbers; the others are zero
 pub record IsRun (width : ℕ) (numbers : List ℤ) (len : ℕ) (bytes : List ℕ) : Type 0 where

@@ -10,45 +10,12 @@ ghost use Rattle.fits_pixels.specs.Statistics.{statistics};
 ghost use Rattle.fits_plane.specs.DataBytes.{IsRead};
 ghost use Rattle.fits_plane.specs.ShortRows.{IsKept};
 
+use crate::conversion::summary_converts;
 use crate::data_bytes::DataBytes;
 use crate::pixel_reads::value_of;
 use crate::pixel_writer::PixelWriter;
 use crate::tree::Tree;
-use fits_pixels::{Layout, Leaf, PixelSummary, Width, is_storable, pixels_per_block};
-
-/// Whether pixels of so many bytes can store a number with the shift, where there is one.
-fn has_room(number: Option<i64>, width: usize, shift: i128) -> bool
-    requires width { IsWidth width }
-    requires shift { unsigned_abs shift ≤ 2 ^ 64 }
-    ensures { IsTrue result ↔ IfSome number (λ z. IsStorable width (z +ℤ shift)) }
-{
-    match number {
-        Some(stored) => is_storable(width, value_of(stored, shift)),
-        None => true,
-    }
-}
-
-/// Whether they can store each number of which these are the statistics.
-///
-/// A blank pixel keeps its number too, and is no part of the least and the greatest.
-fn summary_converts(summary: PixelSummary, blank: Option<i64>, width: usize, shift: i128) -> bool
-    requires width { IsWidth width }
-    requires shift { unsigned_abs shift ≤ 2 ^ 64 }
-    ensures { (xs : List ℤ) → summary ≡ statistics blank xs
-        → IsTrue result ↔ ((i : ℕ) → i < length xs
-        → IsStorable width (slice_index_or xs i (pos 0) +ℤ shift)) }
-{
-    if !has_room(summary.least, width, shift) {
-        return false;
-    }
-    if !has_room(summary.greatest, width, shift) {
-        return false;
-    }
-    if summary.blank == 0 {
-        return true;
-    }
-    has_room(blank, width, shift)
-}
+use fits_pixels::{Layout, Leaf, is_storable, pixels_per_block};
 
 /// Whether they can store the numbers of the first blocks, which are full. No pixel is read.
 fn blocks_convert(
@@ -145,67 +112,6 @@ fn convert_each(
     true
 }
 
-/// Stores the first pixels anew, where the width that is written is a type's. That they can be stored
-/// is known.
-fn convert_to<B: Width>(
-    target: &mut [u8],
-    store: &mut DataBytes,
-    from: usize,
-    count: usize,
-    shift: i128,
-)
-    requires from { IsWidth from }
-    requires within { count * from ≤ length store.old.bytes }
-    requires room { count * B.width ≤ length target.old }
-    requires shift { unsigned_abs shift ≤ 2 ^ 64 }
-    requires storable { (x : ℕ) → x < count
-        → IsStorable B.width (pixel from store.old.bytes x +ℤ shift) }
-    ensures long { length target.new ≡ length target.old }
-    ensures inside { (x : ℕ) → x < count
-        → pixel B.width target.new x ≡ pixel from store.old.bytes x +ℤ shift }
-    ensures outside { (j : ℕ) → count * B.width ≤ j
-        → slice_index target.new j ≡ slice_index target.old j }
-    ensures work { store.new ≡ record store.old { reads = store.old.reads + count } }
-{
-    match from {
-        1 => store.convert_as::<u8, B>(target, count, shift),
-        2 => store.convert_as::<i16, B>(target, count, shift),
-        4 => store.convert_as::<i32, B>(target, count, shift),
-        _ => store.convert_as::<i64, B>(target, count, shift),
-    }
-}
-
-/// The same, where it is a number.
-fn convert_all(
-    target: &mut [u8],
-    width: usize,
-    store: &mut DataBytes,
-    from: usize,
-    count: usize,
-    shift: i128,
-)
-    requires width { IsWidth width }
-    requires from { IsWidth from }
-    requires within { count * from ≤ length store.old.bytes }
-    requires room { count * width ≤ length target.old }
-    requires shift { unsigned_abs shift ≤ 2 ^ 64 }
-    requires storable { (x : ℕ) → x < count
-        → IsStorable width (pixel from store.old.bytes x +ℤ shift) }
-    ensures long { length target.new ≡ length target.old }
-    ensures inside { (x : ℕ) → x < count
-        → pixel width target.new x ≡ pixel from store.old.bytes x +ℤ shift }
-    ensures outside { (j : ℕ) → count * width ≤ j
-        → slice_index target.new j ≡ slice_index target.old j }
-    ensures work { store.new ≡ record store.old { reads = store.old.reads + count } }
-{
-    match width {
-        1 => convert_to::<u8>(target, store, from, count, shift),
-        2 => convert_to::<i16>(target, store, from, count, shift),
-        4 => convert_to::<i32>(target, store, from, count, shift),
-        _ => convert_to::<i64>(target, store, from, count, shift),
-    }
-}
-
 /// Whether pixels of so many bytes can store the first pixels of a data unit, each with the shift.
 ///
 /// Only pixels past the last full block are read.
@@ -273,7 +179,7 @@ pub(crate) fn convert_run(
         return false;
     }
     let full = blocks * per;
-    convert_all(target, width, store, from, full, shift);
+    store.convert(target, width, from, full, shift);
     let mut pixels = PixelWriter::new(target);
     convert_each(&mut pixels, width, store, from, full, count - full, shift)
 }

@@ -2,14 +2,13 @@ ghost use Rattle.std.specs.Prelude.{◌≡◌, ◌≤◌, ◌<◌, ◌*◌, ◌+
 ghost use Rattle.fits_pixels.specs.Layout.{block_count};
 ghost use Rattle.fits_pixels.specs.Pixels.{pixel, IsStorable};
 
+use crate::conversion::convert_all;
 use crate::data_counts::DataCounts;
 use crate::painting::Painting;
-use crate::pixel_reads::value_of;
-use crate::pixel_writer::PixelWriter;
 use crate::tree::Tree;
 use crate::{parts, pixel_writes};
 use fits_card::BLOCK_LEN;
-use fits_pixels::{Layout, Leaf, Width, pixel_at, read_bytes, scan_block};
+use fits_pixels::{Layout, Leaf, pixel_at, read_bytes, scan_block};
 use fits_stream::{Count, Sink, write_all};
 use fits_sum::all_are;
 use std::io;
@@ -185,28 +184,32 @@ impl DataBytes {
         pixel_at(self.bytes.as_slice(), width, i)
     }
 
-    /// Stores the first pixels anew in other bytes, of one width in another, each with a shift. That
-    /// they can be stored is known.
-    pub(crate) fn convert_as<A: Width, B: Width>(
+    /// Stores the first pixels anew in other bytes, at another width and each with a shift. That they
+    /// can be stored is known.
+    pub(crate) fn convert(
         &mut self,
         target: &mut [u8],
+        width: usize,
+        from: usize,
         count: usize,
         shift: i128,
     )
-        requires within { count * A.width ≤ length self.old.bytes }
-        requires room { count * B.width ≤ length target.old }
+        requires width { IsWidth width }
+        requires from { IsWidth from }
+        requires within { count * from ≤ length self.old.bytes }
+        requires room { count * width ≤ length target.old }
         requires shift { unsigned_abs shift ≤ 2 ^ 64 }
         requires storable { (x : ℕ) → x < count
-            → IsStorable B.width (pixel A.width self.old.bytes x +ℤ shift) }
+            → IsStorable width (pixel from self.old.bytes x +ℤ shift) }
         ensures long { length target.new ≡ length target.old }
         ensures inside { (x : ℕ) → x < count
-            → pixel B.width target.new x ≡ pixel A.width self.old.bytes x +ℤ shift }
-        ensures outside { (j : ℕ) → count * B.width ≤ j
+            → pixel width target.new x ≡ pixel from self.old.bytes x +ℤ shift }
+        ensures outside { (j : ℕ) → count * width ≤ j
             → slice_index target.new j ≡ slice_index target.old j }
         ensures work { self.new ≡ record self.old { reads = self.old.reads + count } }
     {
         let source = self.bytes.as_slice();
-        convert_pixels::<A, B>(target, source, count, shift, &mut self.reads);
+        convert_all(target, width, source, from, count, shift, &mut self.reads);
     }
 
     /// Whether each byte from a place on is this one.
@@ -293,36 +296,5 @@ impl DataBytes {
             (W.state sink.old) (W.state sink.new)) }
     {
         write_all(sink, self.bytes.as_slice())
-    }
-}
-
-/// Stores the first pixels anew, of one width in another, each with a shift.
-///
-/// The bytes are a slice of their own here: asked for behind the type at each pixel, a run takes up
-/// to eight times as long.
-fn convert_pixels<A: Width, B: Width>(
-    target: &mut [u8],
-    source: &[u8],
-    count: usize,
-    shift: i128,
-    reads: &mut Count,
-)
-    requires within { count * A.width ≤ length source.now }
-    requires room { count * B.width ≤ length target.old }
-    requires shift { unsigned_abs shift ≤ 2 ^ 64 }
-    requires storable { (x : ℕ) → x < count
-        → IsStorable B.width (pixel A.width source.now x +ℤ shift) }
-    ensures long { length target.new ≡ length target.old }
-    ensures inside { (x : ℕ) → x < count
-        → pixel B.width target.new x ≡ pixel A.width source.now x +ℤ shift }
-    ensures outside { (j : ℕ) → count * B.width ≤ j
-        → slice_index target.new j ≡ slice_index target.old j }
-    ensures work { reads.new.total ≡ reads.old.total + count }
-{
-    let mut pixels = PixelWriter::new(target);
-    for x in 0..count {
-        reads.tick();
-        let number = value_of(A::read(source, x), shift);
-        pixels.put_as::<B>(x, number as i64);
     }
 }

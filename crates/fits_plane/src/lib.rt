@@ -1,6 +1,7 @@
 //! The bytes of a data unit of integers: pixels and sums, with statistics that stand under edits.
 #![tactic(auto)]
 
+mod conversion;
 mod converting;
 mod data_bytes;
 mod data_counts;
@@ -22,6 +23,7 @@ mod short_rows;
 mod tree;
 mod values;
 
+pub use conversion::Conversion;
 pub use data_bytes::DataBytes;
 pub use data_counts::DataCounts;
 pub use leaves::leaves_of;

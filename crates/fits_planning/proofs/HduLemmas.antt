@@ -1,15 +1,17 @@
 -- An HDU that lengthens the front of a file.
 use Rattle.std.proofs.Common.{◌≡◌, ℕ, ◌+◌, ◌*◌, ◌%◌, List, ◌++◌, length, take, drop, refl, ap, sym, subst, ◌∙◌, arith, append_assoc, append-nil, Bool, Option, None, Some, false, true, []}
-use Rattle.std.specs.Prelude.{IsSomeAnd, OnOk, Result, if◌then◌else◌}
-use Rattle.std.proofs.lemmas.Bool.{eqb-true}
+use Rattle.std.specs.Prelude.{◌==◌, ◌||◌, IsSomeAnd, OnOk, Result, if◌then◌else◌, is_some, not}
+use Rattle.std.proofs.lemmas.Bool.{and_parts, eqb-true}
 use Rattle.std.proofs.lemmas.List.{length-append, length-drop, length-take}
 use Rattle.std.proofs.Math.Seq.{take-add}
 use Rattle.fits_card.specs.Header.{Header, IsHeader, header_bytes, fill_length}
 use Rattle.fits_card.proofs.HeaderLemmas.{length-header_bytes}
 use Rattle.fits_plane.specs.Plane.{PlaneState}
 use Rattle.fits_pieces.specs.Piece.{piece_of, piece_size, pieces_in}
-use Rattle.fits_unit.specs.DataUnit.{unit_at, Absence, IsKnown, Lies, LiesIn}
-use Rattle.fits_unit.proofs.AgainLemmas.{seen_unit, unit_long}
+use Rattle.fits_unit.specs.Absence.{source_size}
+use Rattle.fits_unit.specs.DataUnit.{is_converted, is_settled, unit_at, unit_from, Absence, IsKnown, Lies, LiesIn}
+use Rattle.fits_unit.specs.declared.origin.Origin.{Origin}
+use Rattle.fits_unit.proofs.AgainLemmas.{known_settled, seen_unit, unit_long}
 use Rattle.fits_unit.proofs.PartReadLemmas.{length-piece, piece_told, pieces_all, pieces_next}
 use Rattle.fits_passing.specs.Hdu.{hdu_bytes}
 use Rattle.fits_hdu.specs.State.{HduState, ReadsUpTo, hdu_at, parts_of}
@@ -42,19 +44,40 @@ front_stays told after there blocks lies front =
       plan = subst (λ (l : List ℕ). IsPlanOf l (after ++ there) blocks) (sym longer) (passes_by (take (length after) told) after there there blocks refl front.plan);
     }
 
--- a piece of a data unit that is as it passed by is what the file has there
-piece_there : (told unit : List ℕ) (it : Absence) (known : Bool) (j : ℕ) → it.known ≡ known → Lies told unit it → piece_of unit j ≡ piece_of it.passed j
-    → piece_of (take (length unit) (drop it.place told)) j ≡ piece_of (if known then unit else take (length unit) (drop it.place told)) j
-piece_there told unit it true j is lies same = ap (λ (l : List ℕ). piece_of l j) (lies.same is) ∙ sym same
-piece_there told unit it false j is lies same = refl
+-- what isn't so
+not_so : (b : Bool) → not b ≡ true → b ≡ false
+not_so true e = absurd (cc)
+not_so false e = refl
+
+none_there : (o : Option Origin) → is_some o ≡ false → o ≡ None
+none_there None e = refl
+none_there (Some it) e = absurd (cc)
+
+-- a data unit that is what lies at a place doesn't come of others
+pub not_converted : (place : ℕ) (absent : Option Absence) → lies_at place absent ≡ true → is_converted absent ≡ false
+not_converted place None here = refl
+not_converted place (Some it) here = not_so (is_some it.origin) (and_parts (not (is_some it.origin)) (it.place == place) here).0
+
+-- a piece of it that is as it passed by is what the file has there
+piece_there : (told unit : List ℕ) (it : Absence) (known : Bool) (j : ℕ) → it.known ≡ known → it.origin ≡ None → Lies told unit it → piece_of unit j ≡ piece_of it.passed j
+    → piece_of (take (length unit) (drop it.place told)) j ≡ piece_of (unit_from told unit (if known then None else Some it.place)) j
+piece_there told unit it true j is none lies same =
+    let there : take (length unit) (drop it.place told) ≡ it.passed = subst (λ (o : Option Origin). take (source_size o unit) (drop it.place told) ≡ it.passed) none (lies.same (known_settled it is)) in
+    ap (λ (l : List ℕ). piece_of l j) there ∙ sym same
+piece_there told unit it false j is none lies same = refl
 
 -- and it lies where the unit does
 piece_lies : (told : List ℕ) (plane : PlaneState) (absent : Option Absence) (place j : ℕ) → LiesIn told plane absent → lies_at place absent ≡ true → IsSomeAnd absent (λ it. piece_of plane.bytes j ≡ piece_of it.passed j)
     → take (piece_size (length plane.bytes) j) (drop (place + 46080 * j) told) ≡ piece_of (unit_at told plane.bytes absent) j
-piece_lies told plane None place j lies at same = absurd same
-piece_lies told plane (Some it) place j lies at same =
-    ap (λ n. take (piece_size (length plane.bytes) j) (drop (n + 46080 * j) told)) (sym (eqb-true it.place place at))
-    ∙ piece_told told (take (length plane.bytes) (drop it.place told)) it.place (length plane.bytes) j refl ∙ piece_there told plane.bytes it it.known j refl lies same
+piece_lies told plane None place j lies here same = absurd same
+piece_lies told plane (Some it) place j lies here same =
+    let unit : List ℕ = plane.bytes in
+    let there : it.place ≡ place = eqb-true it.place place (and_parts (not (is_some it.origin)) (it.place == place) here).1 in
+    let none : it.origin ≡ None = none_there it.origin (not_converted place (Some it) here) in
+    let settled : is_settled it ≡ it.known = ap (λ (o : Option Origin). is_some o || it.known) none in
+    ap (λ n. take (piece_size (length unit) j) (drop (n + 46080 * j) told)) (sym there)
+    ∙ piece_told told (take (length unit) (drop it.place told)) it.place (length unit) j refl ∙ piece_there told unit it it.known j refl none lies same
+    ∙ ap (λ (b : Bool). piece_of (unit_from told unit (if b then None else Some it.place)) j) (sym settled)
 
 -- so one that isn't in memory lengthens the front
 pub piece_stays : (told after : List ℕ) (plane : PlaneState) (absent : Option Absence) (blocks : List ChangedBlock) (place j : ℕ) → IsSomeAnd absent (λ it. piece_of plane.bytes j ≡ piece_of it.passed j) → LiesIn told plane absent → lies_at place absent ≡ true

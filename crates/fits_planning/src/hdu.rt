@@ -18,13 +18,13 @@ use fits_unit::LoadFault;
 use std::alloc::Global;
 use std::io;
 
-/// Whether all of a data unit is in memory, or it lies at this place.
+/// Whether all of a data unit is in memory, or it is what lies at this place.
 pub fn lies_at(hdu: &Hdu, place: u64) -> bool
     ensures { result ≡ places.lies_at place hdu.now.absent }
 {
     match hdu.place() {
         None => true,
-        Some(there) => there == place,
+        Some(there) => !hdu.is_converted() && there == place,
     }
 }
 

@@ -1,6 +1,6 @@
 -- HDUs that lie in a stored file: as they were met, and as they are placed.
-use Rattle.std.proofs.Common.{All, ◌≡◌, ℕ, ◌+◌, ◌<◌, ◌≤◌, List, [], ◌∷◌, ◌++◌, length, map, take, drop, get_or, refl, ap, sym, subst, ◌∙◌, arith, Option, None, true}
-use Rattle.std.specs.Prelude.{Bool, IfSome, false, if◌then◌else◌}
+use Rattle.std.proofs.Common.{All, ◌≡◌, ℕ, ◌+◌, ◌<◌, ◌≤◌, List, [], ◌∷◌, ◌++◌, length, map, take, drop, get_or, refl, ap, sym, subst, ◌∙◌, arith, Option, None, Some, true}
+use Rattle.std.specs.Prelude.{◌||◌, is_some, Bool, IfSome, false, if◌then◌else◌}
 use Rattle.std.proofs.lemmas.List.{append_assoc, at_drop_more, length-append, length-map, map-append}
 use Rattle.std.specs.List.{slice_get}
 use Rattle.std.proofs.lemmas.List.Elements.{All-cons, All-nil}
@@ -13,7 +13,9 @@ use Rattle.fits_stream.proofs.SightLemmas.{takes_fewer}
 use Rattle.fits_stream.specs.Log.{AreThere}
 use Rattle.fits_stream.specs.Stored.{Lent, ReadLogState}
 use Rattle.fits_unit.specs.Again.{Follows}
-use Rattle.fits_unit.specs.DataUnit.{away_plane, is_passed, unit_at, Absence, IsKnown, Lies, LiesIn}
+use Rattle.fits_unit.specs.Absence.{source_size}
+use Rattle.fits_unit.specs.DataUnit.{away_plane, is_passed, is_settled, unit_at, unit_from, Absence, IsKnown, Lies, LiesIn}
+use Rattle.fits_unit.specs.declared.origin.Origin.{Origin}
 use Rattle.fits_passing.specs.Hdu.{HduParts, hdu_bytes}
 use Rattle.fits_passing.specs.Met.{all_there, hdu_end, hdus_end, parts_met, parts_there, reads_of as reads_by, state_by, unit_place, Begins, LiesThere, StoredStops}
 use Rattle.fits_passing.specs.declared.open_fault.OpenFault.TheVariants.{BadShape, Memory, NoEnd, NotFits, ShortData, TooLarge}
@@ -60,8 +62,12 @@ pub all_opened : (start : ℕ) (hdus : List HduState) → AreOpenedFrom start hd
 all_opened start [] p = All-nil (IsOpened 0)
 all_opened start (hdu ∷ hdus) p = All-cons (IsOpened 0) hdu hdus p.0.opened (all_opened (start + length (hdu_bytes (parts_of hdu))) hdus p.1)
 
+-- what doesn't come of others is settled where it is known
+settled_as : (at : Absence) → at.origin ≡ None → is_settled at ≡ at.known
+settled_as at none = ap (λ (o : Option Origin). is_some o || at.known) none
+
 -- what is known of a data unit that passed by is what the file has there; of another that is what stands in its place
-unit_met : (told bytes there : List ℕ) (at : Absence) (known : Bool) → take (length bytes) (drop at.place told) ≡ there → (known ≡ true → there ≡ bytes) → (if known then bytes else take (length bytes) (drop at.place told)) ≡ there
+unit_met : (told bytes there : List ℕ) (at : Absence) (settled : Bool) → take (length bytes) (drop at.place told) ≡ there → (settled ≡ true → there ≡ bytes) → unit_from told bytes (if settled then None else Some at.place) ≡ there
 unit_met told bytes there at true is same = sym (same refl)
 unit_met told bytes there at false is same = is
 
@@ -71,18 +77,20 @@ pub parts_placed : (told : List ℕ) (start place : ℕ) (it : PassedHdu) (one :
 parts_placed told start place it one header unit known opened is lies =
     let n : ℕ = length (away_plane it.unit).bytes in
     let at : Absence = opened.absence in
-    let seen : at.known ≡ is_passed it.unit = subst (λ (a : Option Absence). IfSome a (λ b. b.known ≡ is_passed it.unit)) opened.from.away known in
+    let seen : is_settled at ≡ is_passed it.unit = settled_as at opened.from.origin ∙ subst (λ (a : Option Absence). IfSome a (λ b. b.known ≡ is_passed it.unit)) opened.from.away known in
     let there : take (length one.plane.bytes) (drop at.place told) ≡ take n (drop (unit_place start it) told) = ap (λ k. take k (drop at.place told)) (ap length unit) ∙ ap (λ k. take n (drop k told)) (opened.from.place_is ∙ is) in
     let own : unit_at told one.plane.bytes one.absent ≡ take n (drop (unit_place start it) told) =
-    ap (unit_at told one.plane.bytes) opened.from.away ∙ unit_met told one.plane.bytes (take n (drop (unit_place start it) told)) at at.known there (λ on. lies.same (sym seen ∙ on) ∙ sym unit) in
+    ap (unit_at told one.plane.bytes) opened.from.away ∙ unit_met told one.plane.bytes (take n (drop (unit_place start it) told)) at (is_settled at) there (λ on. lies.same (sym seen ∙ on) ∙ sym unit) in
     ap (λ (h : Header). let u : HduParts = record { header = h; data_unit = unit_at told one.plane.bytes one.absent } in u) header ∙ ap (λ t. let u : HduParts = record { header = it.header.header; data_unit = t } in u) own
 
 -- its data unit lies there
-lies_at : (told : List ℕ) (start : ℕ) (it : PassedHdu) (bytes : List ℕ) (at : Absence) → bytes ≡ (away_plane it.unit).bytes → at.place ≡ unit_place start it → at.known ≡ is_passed it.unit → at.passed ≡ bytes → LiesThere told start it → Lies told bytes at
-lies_at told start it bytes at unit spot seen passed lies = record {
-  there = omega (arith, lies.there, spot, ap length unit);
-  same = λ on. ap (λ k. take k (drop at.place told)) (ap length unit) ∙ ap (λ k. take (length (away_plane it.unit).bytes) (drop k told)) spot ∙ lies.same (sym seen ∙ on) ∙ sym unit ∙ sym passed;
-}
+lies_at : (told : List ℕ) (start : ℕ) (it : PassedHdu) (bytes : List ℕ) (at : Absence) → bytes ≡ (away_plane it.unit).bytes → at.place ≡ unit_place start it → at.origin ≡ None → at.known ≡ is_passed it.unit → at.passed ≡ bytes → LiesThere told start it → Lies told bytes at
+lies_at told start it bytes at unit spot origin seen passed lies =
+    let size : source_size at.origin bytes ≡ length bytes = ap (λ (o : Option Origin). source_size o bytes) origin in
+    record {
+      there = omega (arith, lies.there, spot, ap length unit, size);
+      same = λ on. ap (λ k. take k (drop at.place told)) (size ∙ ap length unit) ∙ ap (λ k. take (length (away_plane it.unit).bytes) (drop k told)) spot ∙ lies.same (sym seen ∙ sym (settled_as at origin) ∙ on) ∙ sym unit ∙ sym passed;
+    }
 
 -- so an HDU that isn't kept is had
 had_away : (told : List ℕ) (one : HduState) → LiesIn told one.plane one.absent → one.kept ≡ false → IsHad (in_file told) one
@@ -98,7 +106,7 @@ had_placed told start place it one unit known opened is lies =
     let at : Absence = opened.absence in
     let spot : at.place ≡ unit_place start it = opened.from.place_is ∙ is in
     let seen : at.known ≡ is_passed it.unit = subst (λ (a : Option Absence). IfSome a (λ b. b.known ≡ is_passed it.unit)) opened.from.away known in
-    let own : Lies told one.plane.bytes at = lies_at told start it one.plane.bytes at unit spot seen opened.from.passed lies in
+    let own : Lies told one.plane.bytes at = lies_at told start it one.plane.bytes at unit spot opened.from.origin seen opened.from.passed lies in
     had_away told one (subst (λ (a : Option Absence). LiesIn told one.plane a) (sym opened.from.away) own) opened.opened.kept
 
 -- and seen where its data unit passed by

@@ -1,5 +1,5 @@
 -- An edit of HDU h of a session owes what it owes of that HDU.
-use Rattle.std.proofs.Common.{◌≡◌, inl, ℕ, ◌+◌, ◌<◌, ◌≤◌, Bool, List, length, get_or, set, refl, ap, sym, ◌∙◌, subst, arith, All, Option, Some, suc, true, false, add-one}
+use Rattle.std.proofs.Common.{◌≡◌, inl, ℕ, ◌+◌, ◌<◌, ◌≤◌, Bool, List, length, get_or, map, set, refl, ap, sym, ◌∙◌, subst, arith, All, Option, Some, suc, true, false, add-one}
 use Rattle.std.specs.Prelude.{Result, Ok, Err, IfOk}
 use Rattle.std.specs.List.{slice_get}
 use Rattle.std.specs.Option.{option_map_or}
@@ -13,6 +13,7 @@ use Rattle.fits_passing.specs.declared.called.ExtensionName.{ExtensionName}
 use Rattle.fits_passing.proofs.ShapeLemmas.{one_primary}
 use Rattle.fits_rules.specs.Class.{is_primary}
 use Rattle.fits_passing.specs.Hdu.{HduParts, hdu_bytes, IsHdu}
+use Rattle.fits_unit.specs.DataUnit.{unread_at}
 use Rattle.fits_hdu.specs.Stamp.{stamped}
 use Rattle.fits_hdu.specs.State.{HduState, name_of, parts_of, IsDescribed}
 use Rattle.fits_passing.specs.Sums.{verdicts_of}
@@ -46,7 +47,7 @@ use Rattle.fits_making.proofs.PixelEditLemmas.{pixels_keep}
 use Rattle.fits_making.proofs.ReshapeEditLemmas.{reshape_described, reshape_named}
 use Rattle.fits_session.proofs.StandingLemmas.{stands_same}
 use Rattle.fits_making.proofs.MakingLemmas.{limit_none, within_limits}
-use Rattle.fits_session.proofs.StateLemmas.{IsHduAt, absences_of-same, file_of-same, kept_of-same, kept_there, parts_changed, right_moved, sound_of, hdu_of-nowhere, hdu_of-there, hdus_of-changed, length-hdus_of, part_there, primary_there, reads_more, reads_none, reads_twice, reads_up_to, slice_get-hdus_of, works_nowhere, rooms_of-same, unread_of-same, works_of-same, works_there}
+use Rattle.fits_session.proofs.StateLemmas.{IsHduAt, absences_of-same, file_of-same, kept_of-same, kept_there, parts_changed, places_of-same, right_moved, sound_of, hdu_of-nowhere, hdu_of-there, hdus_of-changed, length-hdus_of, part_there, primary_there, reads_more, reads_none, reads_twice, reads_up_to, slice_get-hdus_of, works_nowhere, rooms_of-same, unread_of-same, works_of-same, works_there}
 
 -- the file with another HDU at an index is one, where that HDU is one and the file isn't too long
 pub other_kept : (f : List ℕ) (file : FileParts) (i : ℕ) (hdu : HduParts) (change : HduParts → HduParts) → IsFileOf f file → slice_get file.hdus i ≡ Some hdu → IsHdu (is_primary_hdu (suc i)) (change hdu) → length (file_bytes (with_hdu file (suc i) change)) ≤ FILE_LIMIT → IsFile (with_hdu file (suc i) change)
@@ -102,7 +103,7 @@ edits_nowhere hdus tail h edit p =
       };
       idle = idle_same (Hdu h edit) (works_of hdus);
       room = refl;
-      absences = tt;
+      unread = tt;
       away = refl;
     }
 
@@ -257,7 +258,7 @@ edits_made hdus left tail h i edit bytes count n most old new x p follows few =
       work = works hdus tail h i edit bytes count old new (Ok n) p most left follows (follow_few (stamp_follows edit old.kept) edit (hdu_made (is_primary old.header.shape.class) edit (parts_of old)) (parts_of new) most p.edits.ok few);
       idle = tt;
       room = tt;
-      absences = follows.absences ∙ absences_of-same hdus i old new p.at.index.within p.at.is p.edits.absent;
+      unread = ap (map unread_at) follows.absences ∙ places_of-same hdus i old new p.at.index.within p.at.is p.edits.unread;
       away = tt;
     }
 
@@ -290,7 +291,7 @@ edits_refused hdus tail h i edit bytes count old new why p =
       work = works hdus tail h i edit bytes count old new (Err why) p 0 (set hdus i new) (followed_none (set hdus i new) h) (omega arith);
       idle = idle_there hdus h i edit old new p.at.index.within p.at.is p.edits.idle;
       room = rooms_of-same hdus i old new p.at.index.within p.at.is p.edits.room;
-      absences = tt;
+      unread = tt;
       away = absences_of-same hdus i old new p.at.index.within p.at.is p.edits.absent;
     }
 

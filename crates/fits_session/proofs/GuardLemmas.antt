@@ -111,14 +111,14 @@ lacks_fails it (RemoveHdu h) lacks = absurd lacks
 
 -- nothing is read where tables aren't kept
 pub looks_none : (edit : Edit) (session : SessionState) → LooksAt edit session session
-looks_none (Hdu h (Cards edit)) session = record { marks = refl; pixel_work = refl; rooms = refl; reads = reads_none h (columns_reads edit (hdu_of (file_of session) h)) (reads_of session.hdus); ready = λ ready. ready; absences = refl }
-looks_none (Hdu h (Pixels lo hi paint)) session = record { marks = refl; pixel_work = refl; rooms = refl; reads = refl; ready = λ ready. ready; absences = refl }
-looks_none (Hdu h (Reshape kind axes)) session = record { marks = refl; pixel_work = refl; rooms = refl; reads = refl; ready = λ ready. ready; absences = refl }
-looks_none (Hdu h Stamp) session = record { marks = refl; pixel_work = refl; rooms = refl; reads = refl; ready = λ ready. ready; absences = refl }
-looks_none (Hdu h Keep) session = record { marks = refl; pixel_work = refl; rooms = refl; reads = refl; ready = λ ready. ready; absences = refl }
-looks_none (Hdu h Release) session = record { marks = refl; pixel_work = refl; rooms = refl; reads = refl; ready = λ ready. ready; absences = refl }
-looks_none (NewImage at kind axes) session = record { marks = refl; pixel_work = refl; rooms = refl; reads = refl; ready = λ ready. ready; absences = refl }
-looks_none (RemoveHdu h) session = record { marks = refl; pixel_work = refl; rooms = refl; reads = refl; ready = λ ready. ready; absences = refl }
+looks_none (Hdu h (Cards edit)) session = record { marks = refl; pixel_work = refl; rooms = refl; reads = reads_none h (columns_reads edit (hdu_of (file_of session) h)) (reads_of session.hdus); ready = λ ready. ready; keeps = λ keeps. keeps; absences = refl }
+looks_none (Hdu h (Pixels lo hi paint)) session = record { marks = refl; pixel_work = refl; rooms = refl; reads = refl; ready = λ ready. ready; keeps = λ keeps. keeps; absences = refl }
+looks_none (Hdu h (Reshape kind axes)) session = record { marks = refl; pixel_work = refl; rooms = refl; reads = refl; ready = λ ready. ready; keeps = λ keeps. keeps; absences = refl }
+looks_none (Hdu h Stamp) session = record { marks = refl; pixel_work = refl; rooms = refl; reads = refl; ready = λ ready. ready; keeps = λ keeps. keeps; absences = refl }
+looks_none (Hdu h Keep) session = record { marks = refl; pixel_work = refl; rooms = refl; reads = refl; ready = λ ready. ready; keeps = λ keeps. keeps; absences = refl }
+looks_none (Hdu h Release) session = record { marks = refl; pixel_work = refl; rooms = refl; reads = refl; ready = λ ready. ready; keeps = λ keeps. keeps; absences = refl }
+looks_none (NewImage at kind axes) session = record { marks = refl; pixel_work = refl; rooms = refl; reads = refl; ready = λ ready. ready; keeps = λ keeps. keeps; absences = refl }
+looks_none (RemoveHdu h) session = record { marks = refl; pixel_work = refl; rooms = refl; reads = refl; ready = λ ready. ready; keeps = λ keeps. keeps; absences = refl }
 
 -- of HDU h cards were read
 pub looks_there : (hdus : List HduState) (tail : List ℕ) (h i : ℕ) (edit : CardEdit) (old new : HduState) → IsHduAt hdus h i old → ReadsUpTo old new (keeping_reads old.header.header.cards edit)
@@ -130,6 +130,7 @@ looks_there hdus tail h i edit old new at r = record {
   reads = subst (λ (found : Option HduParts). ReadsOnly h (columns_reads edit found) (reads_of hdus) (reads_of (set hdus i new))) (sym (hdu_of-there hdus tail h i old at))
       (reads_more hdus h i (keeping_reads old.header.header.cards edit) old new at r.header.least r.header.most);
   ready = λ ready j one there is. tt;
+  keeps = λ keeps j one there is. tt;
   absences = absences_of-same hdus i old new at.index.within at.is r.absent;
 }
 

@@ -1,11 +1,13 @@
 -- How the data units of a session are had, and what leaves them so.
-use Rattle.std.proofs.Common.{◌≡◌, ◌<◌, ◌∙◌, ap, refl, sym, subst, ℕ, List, [], ◌∷◌, length, map, get_or, set, Option}
+use Rattle.std.proofs.Common.{◌≡◌, ◌<◌, ◌∙◌, ap, inl, refl, sym, subst, ℕ, List, [], ◌∷◌, length, map, get_or, set, Option}
 use Rattle.fits_stream.specs.Stored.{ReadLogState}
 use Rattle.std.specs.Prelude.{All, Bool, true}
 use Rattle.fits_session.specs.Away.{IsTold}
 use Rattle.fits_unit.specs.Again.{Follows}
 use Rattle.std.proofs.lemmas.List.Elements.{All-head, All-set, All-tail}
 use Rattle.fits_passing.specs.Hdu.{HduParts}
+use Rattle.fits_image.specs.declared.kind.Kind.{Kind}
+use Rattle.fits_hdu.specs.Reshape.{HasArray}
 use Rattle.fits_hdu.specs.State.{HduState, ReadsUpTo, hdu_at, parts_of, IsSeen}
 use Rattle.fits_unit.specs.DataUnit.{unit_at, Absence, HasRectangle, IsKnown}
 use Rattle.fits_passing.specs.declared.called.ExtensionName.{ExtensionName}
@@ -65,6 +67,10 @@ held_rect lo hi one held kind found = record {
   pixels = λ is. subst (HasRectangle one.header.shape.axes lo hi one.plane) (sym held) tt;
 }
 
+-- and it may be made any array
+pub held_array : (kind : Kind) (one : HduState) → IsHeld one → HasArray kind one
+held_array kind one held bits found = inl held
+
 -- so has each, where all are in memory
 pub so_pixels : (lo hi : List ℕ) (h : ℕ) (hdus : List HduState) → All IsHeld hdus → IsSoOf (HasPixels lo hi) h hdus
 so_pixels lo hi h hdus held i one at there = held_rect lo hi one (so_held h hdus held i one at there)
@@ -84,7 +90,7 @@ all_seen_held hdus held = λ i d within. seen_held (get_or hdus i d) (held i d w
 ready_one : (edit : HduEdit) (one : HduState) → IsHeld one → IsReadyTo edit one
 ready_one (Cards edit) one held = tt
 ready_one (Pixels lo hi paint) one held = held_rect lo hi one held
-ready_one (Reshape kind axes) one held = λ bits found. held
+ready_one (Reshape kind axes) one held = held_array kind one held
 ready_one Stamp one held = subst IsKnown (sym held) tt
 ready_one Keep one held = subst IsKnown (sym held) tt
 ready_one Release one held = tt

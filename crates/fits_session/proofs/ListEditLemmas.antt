@@ -6,6 +6,7 @@ use Rattle.std.proofs.lemmas.List.{length-append}
 use Rattle.std.proofs.lemmas.List.Edits.{length-insert, length-remove}
 use Rattle.std.proofs.lemmas.List.Elements.{All-append, All-cons, All-drop, All-take}
 use Rattle.std.proofs.lemmas.Option.{slice_get_within}
+use Rattle.fits_unit.specs.DataUnit.{unread_at}
 use Rattle.fits_passing.specs.Hdu.{HduParts, hdu_bytes, IsHdu}
 use Rattle.fits_image.specs.ImageCards.{are_axes}
 use Rattle.fits_hdu.specs.NewImage.{new_image}
@@ -23,7 +24,7 @@ use Rattle.fits_passing.specs.declared.limits.TheConstants.{FILE_LIMIT, HDU_LIMI
 use Rattle.fits_session.specs.Refusal.{new_image_refusal, primary_refusal, refusal_of, removal_refusal, size_refusal, NewNeedsMemory}
 use Rattle.fits_making.specs.Refusal.{Fails}
 use Rattle.fits_session.specs.Marked.{Marked, marked_after, marked_refusal}
-use Rattle.fits_session.specs.Session.{absences_of, file_of, hdus_of, kept_of, marked_of, state_of, unentered, without_entries, EditsTo, IsIndexOf, IsNowhere, SessionState}
+use Rattle.fits_session.specs.Session.{absences_of, file_of, hdus_of, kept_of, marked_of, state_of, unentered, unread_of, without_entries, EditsTo, IsIndexOf, IsNowhere, SessionState}
 use Rattle.fits_edit.specs.declared.edit.Edit.TheVariants.{NewImage, RemoveHdu}
 use Rattle.fits_making.specs.declared.refusal.Refusal.{Refusal}
 use Rattle.fits_making.specs.declared.refusal.Refusal.TheVariants as refusal
@@ -207,7 +208,7 @@ tests_are hdus tail h kind axes = ap (λ n. tests_of (is_within h (n + 1)) (h ==
 -- a new image that is refused owes this
 pub new_refused : {X : Type 0} (hdus : List HduState) (tail : List ℕ) (h : ℕ) (kind : Kind) (axes : List ℕ) (why : Refusal) → Fails NewNeedsMemory (new_image_refusal (file_of (state_of hdus tail)) h kind axes) why → EditsTo {X = X} (NewImage h kind axes) (state_of hdus tail) (state_of hdus tail) (Err why)
 unfolding marked_refusal refusal_of
-new_refused hdus tail h kind axes why p = record { accepted = tt; ok = tt; refused = p; err = refl; work = inl refl; idle = refl; room = refl; absences = tt; away = refl }
+new_refused hdus tail h kind axes why p = record { accepted = tt; ok = tt; refused = p; err = refl; work = inl refl; idle = refl; room = refl; unread = tt; away = refl }
 
 -- it has no place
 pub new_nowhere : {X : Type 0} (hdus : List HduState) (tail : List ℕ) (h : ℕ) (kind : Kind) (axes : List ℕ) → is_within h (length hdus + 1) ≡ false → EditsTo {X = X} (NewImage h kind axes) (state_of hdus tail) (state_of hdus tail) (Err refusal.NoHdu)
@@ -332,7 +333,7 @@ new_made hdus tail h x kind axes new p fits is mark held reads made = record {
   work = inr (record { one = new; is = refl; reads = reads; made = made });
   idle = tt;
   room = tt;
-  absences = map-inserted (λ (one : HduState). one.absent) hdus (h - 1) new ∙ ap (insert (absences_of hdus) (h - 1)) held;
+  unread = ap (map unread_at) (map-inserted (λ (one : HduState). one.absent) hdus (h - 1) new) ∙ map-inserted unread_at (absences_of hdus) (h - 1) new.absent ∙ ap (insert (unread_of hdus) (h - 1)) (ap unread_at held);
   away = tt;
 }
 
@@ -350,7 +351,7 @@ new_size hdus tail h hdu new is = ap (λ (f : FileParts). length (file_bytes f))
 -- an HDU that isn't there doesn't go
 pub removes_nowhere : {X : Type 0} (hdus : List HduState) (tail : List ℕ) (h : ℕ) → IsNowhere (length hdus) h → EditsTo {X = X} (RemoveHdu h) (state_of hdus tail) (state_of hdus tail) (Err refusal.NoHdu)
 unfolding marked_refusal refusal_of
-removes_nowhere hdus tail h p = record { accepted = tt; ok = tt; refused = inl (ap (removal_refusal h) (hdu_of-nowhere hdus tail h p)); err = refl; work = inl refl; idle = refl; room = refl; absences = tt; away = refl }
+removes_nowhere hdus tail h p = record { accepted = tt; ok = tt; refused = inl (ap (removal_refusal h) (hdu_of-nowhere hdus tail h p)); err = refl; work = inl refl; idle = refl; room = refl; unread = tt; away = refl }
 
 -- the primary HDU is there
 primary_is_there : (hdus : List HduState) (tail : List ℕ) (h : ℕ) → 0 < length hdus → h ≡ 1 → removal_refusal h (hdu_of (file_of (state_of hdus tail)) h) ≡ Some refusal.PrimaryStays
@@ -360,7 +361,7 @@ primary_is_there (v ∷ vs) tail h some is = let file : FileParts = file_of (sta
 -- and stays
 pub primary_stays : {X : Type 0} (hdus : List HduState) (tail : List ℕ) (h i : ℕ) → IsIndexOf (length hdus) h i → i ≡ 0 → EditsTo {X = X} (RemoveHdu h) (state_of hdus tail) (state_of hdus tail) (Err refusal.PrimaryStays)
 unfolding marked_refusal refusal_of
-primary_stays hdus tail h i at zero_is = record { accepted = tt; ok = tt; refused = inl (primary_is_there hdus tail h (omega (arith, at.within)) (omega (arith, at.at, zero_is))); err = refl; work = inl refl; idle = refl; room = refl; absences = tt; away = refl }
+primary_stays hdus tail h i at zero_is = record { accepted = tt; ok = tt; refused = inl (primary_is_there hdus tail h (omega (arith, at.within)) (omega (arith, at.at, zero_is))); err = refl; work = inl refl; idle = refl; room = refl; unread = tt; away = refl }
 
 -- another may go
 goes : (h i : ℕ) → h ≡ i + 1 → 0 < i → primary_refusal h ≡ None
@@ -382,7 +383,7 @@ removes hdus left tail h i x old at behind same =
       work = inr (same ∙ map-remove unentered hdus i ∙ ap (remove (without_entries hdus)) index);
       idle = tt;
       room = tt;
-      absences = absences_moved left (remove hdus i) same ∙ (map-left (λ (one : HduState). one.absent) hdus i ∙ ap (remove (absences_of hdus)) index);
+      unread = ap (map unread_at) (absences_moved left (remove hdus i) same ∙ (map-left (λ (one : HduState). one.absent) hdus i ∙ ap (remove (absences_of hdus)) index)) ∙ map-left unread_at (absences_of hdus) (h - 1);
       away = tt;
     }
 

@@ -17,7 +17,8 @@ use Rattle.fits_unit.specs.DataUnit.{unit_at, Absence, IsCounted, IsKnown}
 use Rattle.fits_unit.proofs.AgainLemmas.{seen_unit}
 use Rattle.fits_passing.specs.Hdu.{HduParts, hdu_bytes, IsHdu}
 use Rattle.fits_hdu.specs.State.{HduState, hdu_at, name_of, parts_of, IsDescribed, IsSeen}
-use Rattle.fits_hdu.specs.Work.{Loads, plane_work}
+use Rattle.fits_pixels.specs.Layout.{block_count}
+use Rattle.fits_hdu.specs.Work.{IsLoaded, Loads, PixelWork, plane_work}
 use Rattle.fits_hdu.proofs.PassedLemmas.{same_verdicts}
 use Rattle.fits_passing.specs.declared.called.ExtensionName.{ExtensionName}
 use Rattle.fits_session.specs.Away.{in_file, IsTold, IsToldOn, LoadEach, LoadsAll, LoadsAlone, LoadsAt, LoadWork}
@@ -25,7 +26,9 @@ use Rattle.fits_session.specs.Edit.{changed_at, changed_of, with_hdu}
 use Rattle.fits_passing.specs.File.{is_primary_hdu, FileParts, file_bytes, IsFile}
 use Rattle.fits_making.specs.Keeping.{vouch, IsSound}
 use Rattle.fits_session.specs.Session.{file_of, hdus_of, kept_of, marked_of, session_at, state_of, HasImage, HasStats, IsHeld, IsKept, IsNowhere, IsSoOf, SessionState}
-use Rattle.fits_making.specs.Making.{HasArray, Holding, IsHad}
+use Rattle.fits_hdu.specs.Reshape.{HasArray}
+use Rattle.fits_image.specs.declared.kind.Kind.{Kind}
+use Rattle.fits_making.specs.Making.{HoldsArray, Holding, IsHad}
 use Rattle.fits_passing.specs.declared.limits.TheConstants.{FILE_LIMIT}
 use Rattle.fits_making.proofs.HadLemmas.{had_held}
 use Rattle.fits_session.proofs.EditLemmas.{length_changed, other_kept}
@@ -256,7 +259,7 @@ pub held_image : (hdus : List HduState) (h : ℕ) → IsSoOf IsHeld h hdus → I
 held_image hdus h held i one at is kind found = held i one at is
 
 -- and as an array
-pub held_array : (hdus : List HduState) (h : ℕ) → IsSoOf IsHeld h hdus → IsSoOf HasArray h hdus
+pub held_array : (hdus : List HduState) (h : ℕ) → IsSoOf IsHeld h hdus → IsSoOf HoldsArray h hdus
 held_array hdus h held i one at is bits found = held i one at is
 
 -- the statistics of an image in memory are known
@@ -411,3 +414,20 @@ first_more mid new i first at next = elim at [
 pub not_both : (b : Bool) → not b ≡ true → b ≡ true → ⊥
 not_both true isnt is = cc
 not_both false isnt is = cc
+
+-- ---- what was loaded once was loaded twice at most
+
+loaded_twice : (blocks : ℕ) (old new : PixelWork) → IsLoaded 1 blocks old new → IsLoaded 2 blocks old new
+loaded_twice blocks old new p = record { reads = p.reads; more_scans = p.more_scans; scans = omega (arith, p.scans); more_joins = p.more_joins; joins = λ d few. omega (arith, p.joins d few) }
+
+pub loads_twice : (h : ℕ) (old new : SessionState) → LoadsAt 1 h old new → LoadsAt 2 h old new
+loads_twice h old new p = elim p [
+  | inl same ↦ inl same
+  | inr alone ↦ inr (record {
+    now = alone.now;
+    is = alone.is;
+    loads = λ i one at there.
+        let q = alone.loads i one at there in
+        record { total = q.total; size = q.size; rest = q.rest; work = loaded_twice (block_count one.plane.bytes) (plane_work one.plane) (plane_work alone.now.plane) q.work };
+  })
+]

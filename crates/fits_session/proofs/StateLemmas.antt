@@ -6,6 +6,8 @@ use Rattle.std.specs.Option.{option_map}
 use Rattle.std.proofs.lemmas.List.{length-append, length-map}
 use Rattle.std.proofs.lemmas.List.Elements.{All-cons, All-head, All-nil, All-tail}
 use Rattle.std.proofs.lemmas.Option.{slice_get_read, slice_get_within, slice_get-map, get_or_from_slice_get}
+use Rattle.std.proofs.lemmas.Simd.{map-map}
+use Rattle.fits_unit.specs.DataUnit.{unread_at}
 use Rattle.fits_rules.specs.Class.{is_primary}
 use Rattle.fits_rules.specs.Shape.{shape_of}
 use Rattle.fits_passing.specs.Hdu.{HduParts, hdu_bytes, IsHdu}
@@ -19,7 +21,7 @@ use Rattle.fits_passing.specs.File.{is_primary_hdu, FileParts, IsFile, file_byte
 use Rattle.fits_passing.specs.declared.limits.TheConstants.{FILE_LIMIT, HDU_LIMIT}
 use Rattle.fits_making.specs.Keeping.{vouch, IsRight, IsSound}
 use Rattle.fits_session.specs.Marked.{Marked, is_kept}
-use Rattle.fits_session.specs.Session.{SessionState, absences_of, file_of, hdus_of, kept_of, marked_of, reads_of, rooms_of, works_of, state_of, ReadsOnly, WorksOnly, Asks, IsIndexOf, IsNowhere}
+use Rattle.fits_session.specs.Session.{SessionState, absences_of, file_of, hdus_of, kept_of, marked_of, reads_of, rooms_of, unread_of, works_of, state_of, ReadsOnly, WorksOnly, Asks, IsIndexOf, IsNowhere}
 use Rattle.fits_making.specs.Making.{unread}
 use Rattle.fits_session.proofs.ChangeLemmas.{hdu_is, part_within}
 
@@ -192,6 +194,11 @@ kept_of-same hdus i old new l e p = parts_same (λ (one : HduState). one.kept) h
 -- nor does the data unit of another lie elsewhere
 pub absences_of-same : (hdus : List HduState) (i : ℕ) (old new : HduState) → i < length hdus → old ≡ get_or hdus i old → new.absent ≡ old.absent → absences_of (set hdus i new) ≡ absences_of hdus
 absences_of-same hdus i old new l e p = parts_same (λ (one : HduState). one.absent) hdus i old new l e p
+
+-- nor is another read from elsewhere
+pub places_of-same : (hdus : List HduState) (i : ℕ) (old new : HduState) → i < length hdus → old ≡ get_or hdus i old → unread_at new.absent ≡ unread_at old.absent → unread_of (set hdus i new) ≡ unread_of hdus
+places_of-same hdus i old new l e p =
+    map-map unread_at (λ (one : HduState). one.absent) (set hdus i new) ∙ parts_same (λ (one : HduState). unread_at one.absent) hdus i old new l e p ∙ sym (map-map unread_at (λ (one : HduState). one.absent) hdus)
 
 -- whether the HDU at an index is kept
 kept_at : (hdus : List HduState) (i : ℕ) (hdu : HduState) → i < length hdus → hdu ≡ get_or hdus i hdu → get_or (kept_of hdus) i false ≡ hdu.kept

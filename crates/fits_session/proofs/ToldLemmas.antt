@@ -1,6 +1,6 @@
 -- An edit of a session comes to the same over each file that its data units may lie in.
 use Rattle.std.proofs.Common.{◌≡◌, ℕ, ◌+◌, ◌-◌, Bool, true, false, List, [], ◌∷◌, length, map, get_or, take, drop, refl, ap, sym, ◌∙◌, subst, arith, All, Option, None, Some, zero, suc, inl, inr, add-one}
-use Rattle.std.specs.Prelude.{◌⊎◌, ◌&&◌, ◌==◌, ok_or, not, IfSome, Result, Ok, Err, if◌then◌else◌}
+use Rattle.std.specs.Prelude.{◌⊎◌, ◌&&◌, ◌==◌, ok_or, not, IsSomeAnd, Result, Ok, Err, if◌then◌else◌}
 use Rattle.std.specs.Option.{option_map}
 use Rattle.std.specs.List.{insert, remove, slice_get}
 use Rattle.std.proofs.lemmas.List.{length-append, length-drop, length-map, length-take}
@@ -23,10 +23,11 @@ use Rattle.fits_hdu.specs.declared.pixel_fault.PixelFault.TheVariants as pixel
 use Rattle.fits_passing.specs.Stats.{stats_of, Stats}
 use Rattle.fits_passing.specs.Sums.{verdicts_of}
 use Rattle.fits_plane.specs.Plane.{PlaneState}
+use Rattle.fits_hdu.specs.Reshape.{StaysAway}
 use Rattle.fits_hdu.specs.Stamp.{stamped}
 use Rattle.fits_hdu.specs.State.{HduState, hdu_at, parts_of, HasPixels, HasStats, IsDescribed, IsSeen}
-use Rattle.fits_unit.specs.DataUnit.{unit_at, Absence, IsCounted, IsKnown, Lies}
-use Rattle.fits_unit.proofs.AgainLemmas.{seen_unit, there_long, unit_long}
+use Rattle.fits_unit.specs.DataUnit.{unit_at, unit_from, unread_at, Absence, IsCounted, IsKnown, IsPassed}
+use Rattle.fits_unit.proofs.AgainLemmas.{known_settled, unit_long}
 use Rattle.fits_edit.specs.declared.edit.Edit.{Edit}
 use Rattle.fits_edit.specs.declared.edit.Edit.TheVariants.{Hdu, NewImage, RemoveHdu}
 use Rattle.fits_edit.specs.declared.hdu_edit.HduEdit.{HduEdit}
@@ -43,71 +44,75 @@ use Rattle.fits_session.specs.Edit.{changed_at, changed_of, file_after, hdu_edit
 use Rattle.fits_session.specs.Query.{by_shape, in_hdu, rect_in, stats_in}
 use Rattle.fits_session.specs.Marked.{is_kept, kept_in, marked_after, marked_refusal, Marked}
 use Rattle.fits_session.specs.Refusal.{new_image_refusal, refusal_in, refusal_of, removal_refusal, size_refusal}
-use Rattle.fits_session.specs.Session.{absences_after, absences_of, file_of, hdus_of, kept_of, marked_of, session_at, state_of, IsReadyFor, IsSoOf, SessionState}
+use Rattle.fits_session.specs.Session.{absences_of, file_of, hdus_of, kept_of, marked_of, session_at, state_of, unread_after, unread_of, IsReadyFor, IsSoOf, SessionState}
 use Rattle.fits_session.proofs.ChangeLemmas.{changed_at-both}
 use Rattle.fits_session.proofs.FilledLemmas.{alike_filled, alike_made, fill_of, filled, filled_at, fills_of, long_at, long_filled, made_filled, refusal_filled, unlooked, AreAlike, HasNoKind, LooksAtNone}
-use Rattle.fits_session.proofs.HadLemmas.{seen_held}
 use Rattle.fits_session.proofs.KeptLemmas.{parts_same_at}
 use Rattle.fits_session.proofs.ListEditLemmas.{new_length}
 use Rattle.fits_session.proofs.LoadedLemmas.{kept_at_told, parts_at, seen_parts}
 use Rattle.fits_session.proofs.StateLemmas.{IsHduAt, described_there, kept_there, length-hdus_of}
 
--- an HDU in a file: where its data unit isn't known it is what the file has at its place
-abbrev pub told_one : List ℕ → Option Absence → HduParts → HduParts
-told_one told absent hdu = record hdu { data_unit = unit_at told hdu.data_unit absent }
+-- an HDU in a file: where its data unit is to be read yet it is what the file has at this place
+abbrev pub told_one : List ℕ → Option ℕ → HduParts → HduParts
+told_one told place hdu = record hdu { data_unit = unit_from told hdu.data_unit place }
 
 -- the same of each
-abbrev pub told_all : List ℕ → List (Option Absence) → List HduParts → List HduParts
+abbrev pub told_all : List ℕ → List (Option ℕ) → List HduParts → List HduParts
 told_all told [] hdus = hdus
-told_all told (absent ∷ absences) [] = []
-told_all told (absent ∷ absences) (hdu ∷ hdus) = told_one told absent hdu ∷ told_all told absences hdus
+told_all told (place ∷ places) [] = []
+told_all told (place ∷ places) (hdu ∷ hdus) = told_one told place hdu ∷ told_all told places hdus
 
 -- ---- a session over a file
 
 -- its HDUs are those in the file
-pub told_parts : (told : List ℕ) (hdus : List HduState) → hdus_of (map (hdu_at told) hdus) ≡ told_all told (absences_of hdus) (hdus_of hdus)
+pub told_parts : (told : List ℕ) (hdus : List HduState) → hdus_of (map (hdu_at told) hdus) ≡ told_all told (unread_of hdus) (hdus_of hdus)
 told_parts told [] = refl
-told_parts told (hdu ∷ hdus) = ap (λ (us : List HduParts). told_one told hdu.absent (parts_of hdu) ∷ us) (told_parts told hdus)
+told_parts told (hdu ∷ hdus) = ap (λ (us : List HduParts). told_one told (unread_at hdu.absent) (parts_of hdu) ∷ us) (told_parts told hdus)
 
 -- ---- the list after an edit
 
 -- one of them is changed
-pub changed_told : (told : List ℕ) (absences : List (Option Absence)) (hdus : List HduParts) (i : ℕ) (change after : HduParts → HduParts)
-    → ((hdu : HduParts) → slice_get hdus i ≡ Some hdu → told_one told (get_or absences i None) (change hdu) ≡ after (told_one told (get_or absences i None) hdu))
-    → told_all told absences (changed_at i change hdus) ≡ changed_at i after (told_all told absences hdus)
+pub changed_told : (told : List ℕ) (places : List (Option ℕ)) (hdus : List HduParts) (i : ℕ) (change after : HduParts → HduParts)
+    → ((hdu : HduParts) → slice_get hdus i ≡ Some hdu → told_one told (get_or places i None) (change hdu) ≡ after (told_one told (get_or places i None) hdu))
+    → told_all told places (changed_at i change hdus) ≡ changed_at i after (told_all told places hdus)
 changed_told told [] [] i change after same = refl
 changed_told told [] (one ∷ hdus) zero change after same = ap (λ (u : HduParts). u ∷ hdus) (same one refl)
 changed_told told [] (one ∷ hdus) (suc i) change after same = ap (λ (us : List HduParts). one ∷ us) (changed_told told [] hdus i change after same)
-changed_told told (absent ∷ absences) [] i change after same = refl
-changed_told told (absent ∷ absences) (one ∷ hdus) zero change after same = ap (λ (u : HduParts). u ∷ told_all told absences hdus) (same one refl)
-changed_told told (absent ∷ absences) (one ∷ hdus) (suc i) change after same = ap (λ (us : List HduParts). told_one told absent one ∷ us) (changed_told told absences hdus i change after same)
+changed_told told (place ∷ places) [] i change after same = refl
+changed_told told (place ∷ places) (one ∷ hdus) zero change after same = ap (λ (u : HduParts). u ∷ told_all told places hdus) (same one refl)
+changed_told told (place ∷ places) (one ∷ hdus) (suc i) change after same = ap (λ (us : List HduParts). told_one told place one ∷ us) (changed_told told places hdus i change after same)
 
 -- one is put in that is in memory
-pub insert_told : (told : List ℕ) (absences : List (Option Absence)) (hdus : List HduParts) (k : ℕ) (one : HduParts) → length absences ≡ length hdus → told_all told (insert absences k None) (insert hdus k one) ≡ insert (told_all told absences hdus) k one
-insert_told told absences hdus zero one count = refl
+pub insert_told : (told : List ℕ) (places : List (Option ℕ)) (hdus : List HduParts) (k : ℕ) (one : HduParts) → length places ≡ length hdus → told_all told (insert places k None) (insert hdus k one) ≡ insert (told_all told places hdus) k one
+insert_told told places hdus zero one count = refl
 insert_told told [] [] (suc k) one count = refl
 insert_told told [] (hdu ∷ hdus) (suc k) one count = absurd (omega (arith, count))
-insert_told told (absent ∷ absences) [] (suc k) one count = absurd (omega (arith, count))
-insert_told told (absent ∷ absences) (hdu ∷ hdus) (suc k) one count = ap (λ (us : List HduParts). told_one told absent hdu ∷ us) (insert_told told absences hdus k one (omega (arith, count)))
+insert_told told (place ∷ places) [] (suc k) one count = absurd (omega (arith, count))
+insert_told told (place ∷ places) (hdu ∷ hdus) (suc k) one count = ap (λ (us : List HduParts). told_one told place hdu ∷ us) (insert_told told places hdus k one (omega (arith, count)))
 
 -- one is taken out
-pub remove_told : (told : List ℕ) (absences : List (Option Absence)) (hdus : List HduParts) (k : ℕ) → length absences ≡ length hdus → told_all told (remove absences k) (remove hdus k) ≡ remove (told_all told absences hdus) k
+pub remove_told : (told : List ℕ) (places : List (Option ℕ)) (hdus : List HduParts) (k : ℕ) → length places ≡ length hdus → told_all told (remove places k) (remove hdus k) ≡ remove (told_all told places hdus) k
 remove_told told [] [] zero count = refl
 remove_told told [] [] (suc k) count = refl
 remove_told told [] (hdu ∷ hdus) k count = absurd (omega (arith, count))
-remove_told told (absent ∷ absences) [] k count = absurd (omega (arith, count))
-remove_told told (absent ∷ absences) (hdu ∷ hdus) zero count = refl
-remove_told told (absent ∷ absences) (hdu ∷ hdus) (suc k) count = ap (λ (us : List HduParts). told_one told absent hdu ∷ us) (remove_told told absences hdus k (omega (arith, count)))
+remove_told told (place ∷ places) [] k count = absurd (omega (arith, count))
+remove_told told (place ∷ places) (hdu ∷ hdus) zero count = refl
+remove_told told (place ∷ places) (hdu ∷ hdus) (suc k) count = ap (λ (us : List HduParts). told_one told place hdu ∷ us) (remove_told told places hdus k (omega (arith, count)))
 
 -- ---- what an edit makes of an HDU
 
--- an edit looks at data that are known, or at none
-abbrev pub IsFine : Bool → HduEdit → Option Absence → HduParts → Type 0
-IsFine primary edit absent hdu = IsKnown absent ⊎ LooksAtNone primary edit hdu
+-- an edit looks at data that are settled, or at none
+abbrev pub IsFine : Bool → HduEdit → Option ℕ → HduParts → Type 0
+IsFine primary edit place hdu = (place ≡ None) ⊎ LooksAtNone primary edit hdu
 
--- an HDU whose data unit is known is the same in any file
-pub known_told : (told : List ℕ) (absent : Option Absence) (hdu : HduParts) → IsKnown absent → told_one told absent hdu ≡ hdu
-known_told told absent hdu known = ap (λ (t : List ℕ). let u : HduParts = record { header = hdu.header; data_unit = t } in u) (seen_unit told hdu.data_unit absent known)
+-- an HDU whose data unit is settled is the same in any file
+settled_told : (told : List ℕ) (place : Option ℕ) (hdu : HduParts) → place ≡ None → told_one told place hdu ≡ hdu
+settled_told told place hdu settled = ap (λ (p : Option ℕ). told_one told p hdu) settled
+
+-- so is what is known
+pub known_unread : (absent : Option Absence) → IsKnown absent → unread_at absent ≡ None
+known_unread None known = refl
+known_unread (Some it) known = ap (λ (b : Bool). let place : Option ℕ = if b then None else Some it.place in place) (known_settled it known)
 
 -- an HDU with what a file has from a place on
 abbrev pub there_one : List ℕ → ℕ → HduParts → HduParts
@@ -122,60 +127,65 @@ made_placed told place hdu (Ok made) like long =
 made_placed told place hdu (Err why) like long = refl
 
 -- an edit that looks at none makes the same of it
-edited_placed : (told : List ℕ) (primary : Bool) (edit : HduEdit) (it : Absence) (hdu : HduParts) → LooksAtNone primary edit hdu → Lies told hdu.data_unit it
-    → there_one told it.place (hdu_edited primary edit hdu) ≡ hdu_edited primary edit (there_one told it.place hdu)
-edited_placed told primary edit it hdu none lies =
-    let unit : List ℕ = take (length hdu.data_unit) (drop it.place told) in
-    let long : length unit ≡ length hdu.data_unit = there_long told hdu.data_unit it lies in
-    made_placed told it.place hdu (hdu_made primary edit hdu) (alike_made primary edit hdu unit none long) long ∙ ap (made_or (there_one told it.place hdu)) (sym (unlooked primary edit hdu unit none))
-
--- whether it is known or not
-edited_by : (told : List ℕ) (primary : Bool) (edit : HduEdit) (it : Absence) (hdu : HduParts) (known : Bool) → LooksAtNone primary edit hdu → Lies told hdu.data_unit it
-    → (let one : HduParts → HduParts = λ u. record u { data_unit = if known then u.data_unit else take (length u.data_unit) (drop it.place told) } in one (hdu_edited primary edit hdu) ≡ hdu_edited primary edit (one hdu))
-edited_by told primary edit it hdu true none lies = refl
-edited_by told primary edit it hdu false none lies = edited_placed told primary edit it hdu none lies
+edited_placed : (told : List ℕ) (primary : Bool) (edit : HduEdit) (place : ℕ) (hdu : HduParts) → LooksAtNone primary edit hdu → length (take (length hdu.data_unit) (drop place told)) ≡ length hdu.data_unit
+    → there_one told place (hdu_edited primary edit hdu) ≡ hdu_edited primary edit (there_one told place hdu)
+edited_placed told primary edit place hdu none long =
+    let unit : List ℕ = take (length hdu.data_unit) (drop place told) in
+    made_placed told place hdu (hdu_made primary edit hdu) (alike_made primary edit hdu unit none long) long ∙ ap (made_or (there_one told place hdu)) (sym (unlooked primary edit hdu unit none))
 
 -- an edit makes the same of an HDU over a file
-pub edited_told : (told : List ℕ) (primary : Bool) (edit : HduEdit) (absent : Option Absence) (hdu : HduParts) → IsFine primary edit absent hdu → IfSome absent (Lies told hdu.data_unit)
-    → told_one told absent (hdu_edited primary edit hdu) ≡ hdu_edited primary edit (told_one told absent hdu)
-edited_told told primary edit absent hdu (inl known) lies = known_told told absent (hdu_edited primary edit hdu) known ∙ ap (hdu_edited primary edit) (sym (known_told told absent hdu known))
-edited_told told primary edit None hdu (inr none) lies = refl
-edited_told told primary edit (Some it) hdu (inr none) lies = edited_by told primary edit it hdu it.known none lies
+pub edited_told : (told : List ℕ) (primary : Bool) (edit : HduEdit) (place : Option ℕ) (hdu : HduParts) → IsFine primary edit place hdu → length (unit_from told hdu.data_unit place) ≡ length hdu.data_unit
+    → told_one told place (hdu_edited primary edit hdu) ≡ hdu_edited primary edit (told_one told place hdu)
+edited_told told primary edit place hdu (inl settled) long = settled_told told place (hdu_edited primary edit hdu) settled ∙ ap (hdu_edited primary edit) (sym (settled_told told place hdu settled))
+edited_told told primary edit None hdu (inr none) long = refl
+edited_told told primary edit (Some place) hdu (inr none) long = edited_placed told primary edit place hdu none long
 
 -- and then stamps it, where a stamp follows
-pub finished_told : (told : List ℕ) (primary stamps : Bool) (edit : HduEdit) (absent : Option Absence) (hdu : HduParts) → IsFine primary edit absent hdu → IfSome absent (Lies told hdu.data_unit) → (stamps ≡ true → IsKnown absent)
-    → told_one told absent (stamped_if stamps (hdu_edited primary edit hdu)) ≡ stamped_if stamps (hdu_edited primary edit (told_one told absent hdu))
-finished_told told primary false edit absent hdu fine lies seen = edited_told told primary edit absent hdu fine lies
-finished_told told primary true edit absent hdu fine lies seen =
-    let known : IsKnown absent = seen refl in
-    known_told told absent (stamped (hdu_edited primary edit hdu)) known ∙ ap (λ (u : HduParts). stamped (hdu_edited primary edit u)) (sym (known_told told absent hdu known))
+pub finished_told : (told : List ℕ) (primary stamps : Bool) (edit : HduEdit) (place : Option ℕ) (hdu : HduParts) → IsFine primary edit place hdu → length (unit_from told hdu.data_unit place) ≡ length hdu.data_unit → (stamps ≡ true → place ≡ None)
+    → told_one told place (stamped_if stamps (hdu_edited primary edit hdu)) ≡ stamped_if stamps (hdu_edited primary edit (told_one told place hdu))
+finished_told told primary false edit place hdu fine long seen = edited_told told primary edit place hdu fine long
+finished_told told primary true edit place hdu fine long seen =
+    let settled : place ≡ None = seen refl in
+    settled_told told place (stamped (hdu_edited primary edit hdu)) settled ∙ ap (λ (u : HduParts). stamped (hdu_edited primary edit u)) (sym (settled_told told place hdu settled))
 
 -- ---- what an edit is ready for
 
--- its data are known, or it is no image
-pixels_fine : (kind : Option Kind) (shape : Shape) (cards : List (List ℕ)) (absent : Option Absence) → kind_in shape cards ≡ kind → ((k : Kind) → kind_in shape cards ≡ Some k → IsKnown absent) → IsKnown absent ⊎ HasNoKind kind_in (Ok shape) cards
-pixels_fine None shape cards absent is ready = inr is
-pixels_fine (Some k) shape cards absent is ready = inl (ready k is)
+-- its data are settled, or it is no image
+pixels_fine : (kind : Option Kind) (shape : Shape) (cards : List (List ℕ)) (place : Option ℕ) → kind_in shape cards ≡ kind → ((k : Kind) → kind_in shape cards ≡ Some k → place ≡ None) → (place ≡ None) ⊎ HasNoKind kind_in (Ok shape) cards
+pixels_fine None shape cards place is ready = inr is
+pixels_fine (Some k) shape cards place is ready = inl (ready k is)
 
 -- or no array
-array_fine : (bits : Option ℕ) (shape : Shape) (cards : List (List ℕ)) (absent : Option Absence) → array_bits shape ≡ bits → ((n : ℕ) → array_bits shape ≡ Some n → IsKnown absent) → IsKnown absent ⊎ HasNoKind array_kind (Ok shape) cards
+array_fine : (bits : Option ℕ) (shape : Shape) (cards : List (List ℕ)) (place : Option ℕ) → array_bits shape ≡ bits → ((n : ℕ) → array_bits shape ≡ Some n → place ≡ None) → (place ≡ None) ⊎ HasNoKind array_kind (Ok shape) cards
 unfolding array_kind
-array_fine None shape cards absent is ready = inr (ap (option_map (λ n. kind_of n (has_offset cards (convention n)))) is)
-array_fine (Some n) shape cards absent is ready = inl (ready n is)
+array_fine None shape cards place is ready = inr (ap (option_map (λ n. kind_of n (has_offset cards (convention n)))) is)
+array_fine (Some n) shape cards place is ready = inl (ready n is)
+
+-- what can be converted as it is read is known
+passed_known : (plane : PlaneState) (absent : Option Absence) → IsSomeAnd absent (IsPassed plane) → IsKnown absent
+passed_known plane None passed = tt
+passed_known plane (Some it) passed = passed.counts.known
+
+-- so an array that may be made another is settled
+array_settled : (kind : Kind) (one : HduState) → (one.absent ≡ None) ⊎ StaysAway kind one → unread_at one.absent ≡ None
+array_settled kind one had = elim had [
+  | inl held ↦ ap unread_at held
+  | inr away ↦ known_unread one.absent (passed_known one.plane one.absent away.can.passed)
+]
 
 -- so an edit that is ready is fine
-pub ready_fine : (primary : Bool) (edit : HduEdit) (one : HduState) → shape_of primary one.header.header.cards ≡ Ok one.header.shape → IsReadyTo edit one → IsFine primary edit one.absent (parts_of one)
+pub ready_fine : (primary : Bool) (edit : HduEdit) (one : HduState) → shape_of primary one.header.header.cards ≡ Ok one.header.shape → IsReadyTo edit one → IsFine primary edit (unread_at one.absent) (parts_of one)
 ready_fine primary (Cards edit) one described ready = inr tt
-ready_fine primary (Pixels lo hi paint) one described ready = elim (pixels_fine (kind_in one.header.shape one.header.header.cards) one.header.shape one.header.header.cards one.absent refl (λ k found. (ready k found).seen)) [
-  | inl known ↦ inl known
+ready_fine primary (Pixels lo hi paint) one described ready = elim (pixels_fine (kind_in one.header.shape one.header.header.cards) one.header.shape one.header.header.cards (unread_at one.absent) refl (λ k found. known_unread one.absent (ready k found).seen)) [
+  | inl settled ↦ inl settled
   | inr none ↦ inr (subst (λ (r : Result Shape ℕ). HasNoKind kind_in r one.header.header.cards) (sym described) none)
 ]
-ready_fine primary (Reshape kind axes) one described ready = elim (array_fine (array_bits one.header.shape) one.header.shape one.header.header.cards one.absent refl (λ n found. seen_held one (ready n found))) [
-  | inl known ↦ inl known
+ready_fine primary (Reshape kind axes) one described ready = elim (array_fine (array_bits one.header.shape) one.header.shape one.header.header.cards (unread_at one.absent) refl (λ n found. array_settled kind one (ready n found))) [
+  | inl settled ↦ inl settled
   | inr none ↦ inr (subst (λ (r : Result Shape ℕ). HasNoKind array_kind r one.header.header.cards) (sym described) none)
 ]
-ready_fine primary Stamp one described ready = inl ready
-ready_fine primary Keep one described ready = inl ready
+ready_fine primary Stamp one described ready = inl (known_unread one.absent ready)
+ready_fine primary Keep one described ready = inl (known_unread one.absent ready)
 ready_fine primary Release one described ready = inr tt
 
 -- ---- an edit of HDU h
@@ -190,9 +200,9 @@ follows_kept Keep kept follows = cc
 follows_kept Release kept follows = cc
 
 -- what is fine looks at none of it, or at what is the same
-fine_filled : (told : List ℕ) (primary : Bool) (edit : HduEdit) (absent : Option Absence) (hdu : HduParts) → IsFine primary edit absent hdu → LooksAtNone primary edit hdu ⊎ (told_one told absent hdu ≡ hdu)
-fine_filled told primary edit absent hdu (inl known) = inr (known_told told absent hdu known)
-fine_filled told primary edit absent hdu (inr none) = inl none
+fine_filled : (told : List ℕ) (primary : Bool) (edit : HduEdit) (place : Option ℕ) (hdu : HduParts) → IsFine primary edit place hdu → LooksAtNone primary edit hdu ⊎ (told_one told place hdu ≡ hdu)
+fine_filled told primary edit place hdu (inl settled) = inr (settled_told told place hdu settled)
+fine_filled told primary edit place hdu (inr none) = inl none
 
 module _ (told : List ℕ) (hdus : List HduState) (tail : List ℕ) (edit : HduEdit) (whole : IsFile (file_of (state_of hdus tail))) (described : All IsDescribed hdus) (lie : AllLie told hdus) where
   -- what is so of the HDU at an index
@@ -200,7 +210,7 @@ module _ (told : List ℕ) (hdus : List HduState) (tail : List ℕ) (edit : HduE
   had_there i one at = subst (IsHad (in_file told)) (sym at.is) (lie i one at.index.within)
 
   -- the edit is fine there
-  fine_there : (i : ℕ) (one : HduState) → IsReadyFor (Hdu (suc i) edit) hdus → IsHduAt hdus (suc i) i one → IsFine (is_primary_hdu (suc i)) edit one.absent (parts_of one)
+  fine_there : (i : ℕ) (one : HduState) → IsReadyFor (Hdu (suc i) edit) hdus → IsHduAt hdus (suc i) i one → IsFine (is_primary_hdu (suc i)) edit (unread_at one.absent) (parts_of one)
   fine_there i one ready at =
       let own : IsDescribed one = subst IsDescribed (sym at.is) (described i one at.index.within) in
       ready_fine (is_primary_hdu (suc i)) edit one (described_there hdus tail (suc i) i one whole at own) (ready i one at.index (sym at.is))
@@ -218,32 +228,35 @@ module _ (told : List ℕ) (hdus : List HduState) (tail : List ℕ) (edit : HduE
 
   -- it comes to the same over the file
   made_there : (i : ℕ) (hdu : HduParts) (found : Option HduState) → IsReadyFor (Hdu (suc i) edit) hdus → slice_get hdus i ≡ found → option_map parts_of found ≡ Some hdu
-      → told_one told (get_or (absences_of hdus) i None) (stamped_if (stamp_follows edit (is_kept (kept_of hdus) (suc i))) (hdu_edited (is_primary_hdu (suc i)) edit hdu))
-      ≡ stamped_if (stamp_follows edit (is_kept (kept_of hdus) (suc i))) (hdu_edited (is_primary_hdu (suc i)) edit (told_one told (get_or (absences_of hdus) i None) hdu))
+      → told_one told (get_or (unread_of hdus) i None) (stamped_if (stamp_follows edit (is_kept (kept_of hdus) (suc i))) (hdu_edited (is_primary_hdu (suc i)) edit hdu))
+      ≡ stamped_if (stamp_follows edit (is_kept (kept_of hdus) (suc i))) (hdu_edited (is_primary_hdu (suc i)) edit (told_one told (get_or (unread_of hdus) i None) hdu))
   made_there i hdu None ready there is = cc
   made_there i hdu (Some one) ready there is =
       let at : IsHduAt hdus (suc i) i one = at_index i one there in
       let own : parts_of one ≡ hdu = cc in
       let stamps : Bool = stamp_follows edit (is_kept (kept_of hdus) (suc i)) in
       let primary : Bool = is_primary_hdu (suc i) in
-      let place : get_or (absences_of hdus) i None ≡ one.absent = get_or_from_slice_get (absences_of hdus) i one.absent None (slice_get-map (λ (it : HduState). it.absent) hdus i ∙ ap (option_map (λ (it : HduState). it.absent)) there) in
-      let same : told_one told one.absent (stamped_if stamps (hdu_edited primary edit (parts_of one))) ≡ stamped_if stamps (hdu_edited primary edit (told_one told one.absent (parts_of one))) =
-      finished_told told primary stamps edit one.absent (parts_of one) (fine_there i one ready at) (had_there i one at).lies (seen_there i one at) in
-      let here : told_one told (get_or (absences_of hdus) i None) (stamped_if stamps (hdu_edited primary edit (parts_of one))) ≡ stamped_if stamps (hdu_edited primary edit (told_one told (get_or (absences_of hdus) i None) (parts_of one))) =
-      subst (λ (a : Option Absence). told_one told a (stamped_if stamps (hdu_edited primary edit (parts_of one))) ≡ stamped_if stamps (hdu_edited primary edit (told_one told a (parts_of one)))) (sym place) same in
-      subst (λ (u : HduParts). told_one told (get_or (absences_of hdus) i None) (stamped_if stamps (hdu_edited primary edit u)) ≡ stamped_if stamps (hdu_edited primary edit (told_one told (get_or (absences_of hdus) i None) u))) own here
+      let unread : Option ℕ = unread_at one.absent in
+      let lies : slice_get (absences_of hdus) i ≡ Some one.absent = slice_get-map (λ (it : HduState). it.absent) hdus i ∙ ap (option_map (λ (it : HduState). it.absent)) there in
+      let place : get_or (unread_of hdus) i None ≡ unread = get_or_from_slice_get (unread_of hdus) i unread None (slice_get-map unread_at (absences_of hdus) i ∙ ap (option_map unread_at) lies) in
+      let long : length (unit_at told one.plane.bytes one.absent) ≡ length one.plane.bytes = unit_long told one.plane.bytes one.absent (had_there i one at).lies in
+      let same : told_one told unread (stamped_if stamps (hdu_edited primary edit (parts_of one))) ≡ stamped_if stamps (hdu_edited primary edit (told_one told unread (parts_of one))) =
+      finished_told told primary stamps edit unread (parts_of one) (fine_there i one ready at) long (λ on. known_unread one.absent (seen_there i one at on)) in
+      let here : told_one told (get_or (unread_of hdus) i None) (stamped_if stamps (hdu_edited primary edit (parts_of one))) ≡ stamped_if stamps (hdu_edited primary edit (told_one told (get_or (unread_of hdus) i None) (parts_of one))) =
+      subst (λ (a : Option ℕ). told_one told a (stamped_if stamps (hdu_edited primary edit (parts_of one))) ≡ stamped_if stamps (hdu_edited primary edit (told_one told a (parts_of one)))) (sym place) same in
+      subst (λ (u : HduParts). told_one told (get_or (unread_of hdus) i None) (stamped_if stamps (hdu_edited primary edit u)) ≡ stamped_if stamps (hdu_edited primary edit (told_one told (get_or (unread_of hdus) i None) u))) own here
 
   -- so does the list
   pub list_told : (h : ℕ) → IsReadyFor (Hdu h edit) hdus
-      → told_all told (absences_of hdus) (changed_of h (stamped_if (stamp_follows edit (is_kept (kept_of hdus) h))) (changed_of h (hdu_edited (is_primary_hdu h) edit) (hdus_of hdus)))
+      → told_all told (unread_of hdus) (changed_of h (stamped_if (stamp_follows edit (is_kept (kept_of hdus) h))) (changed_of h (hdu_edited (is_primary_hdu h) edit) (hdus_of hdus)))
       ≡ changed_of h (stamped_if (stamp_follows edit (is_kept (kept_of hdus) h))) (changed_of h (hdu_edited (is_primary_hdu h) edit) (hdus_of (map (hdu_at told) hdus)))
   list_told zero ready = sym (told_parts told hdus)
   list_told (suc i) ready =
       let first : HduParts → HduParts = hdu_edited (is_primary_hdu (suc i)) edit in
       let second : HduParts → HduParts = stamped_if (stamp_follows edit (is_kept (kept_of hdus) (suc i))) in
       let both : HduParts → HduParts = λ (u : HduParts). second (first u) in
-      ap (told_all told (absences_of hdus)) (changed_at-both i first second (hdus_of hdus))
-      ∙ changed_told told (absences_of hdus) (hdus_of hdus) i both both (λ hdu there. made_there i hdu (slice_get hdus i) ready refl (sym (slice_get-map parts_of hdus i) ∙ there))
+      ap (told_all told (unread_of hdus)) (changed_at-both i first second (hdus_of hdus))
+      ∙ changed_told told (unread_of hdus) (hdus_of hdus) i both both (λ hdu there. made_there i hdu (slice_get hdus i) ready refl (sym (slice_get-map parts_of hdus i) ∙ there))
       ∙ ap (changed_at i both) (sym (told_parts told hdus))
       ∙ sym (changed_at-both i first second (hdus_of (map (hdu_at told) hdus)))
 
@@ -256,7 +269,7 @@ module _ (told : List ℕ) (hdus : List HduState) (tail : List ℕ) (edit : HduE
       let own : parts_of one ≡ hdu = cc in
       let primary : Bool = is_primary_hdu (suc i) in
       let fill : get_or (fills_of told hdus) i None ≡ fill_of told one = get_or_from_slice_get (fills_of told hdus) i (fill_of told one) None (slice_get-map (fill_of told) hdus i ∙ ap (option_map (fill_of told)) there) in
-      let fine : LooksAtNone primary edit (parts_of one) ⊎ (filled (fill_of told one) (parts_of one) ≡ parts_of one) = fine_filled told primary edit one.absent (parts_of one) (fine_there i one ready at) in
+      let fine : LooksAtNone primary edit (parts_of one) ⊎ (filled (fill_of told one) (parts_of one) ≡ parts_of one) = fine_filled told primary edit (unread_at one.absent) (parts_of one) (fine_there i one ready at) in
       let long : length (unit_at told one.plane.bytes one.absent) ≡ length one.plane.bytes = unit_long told one.plane.bytes one.absent (had_there i one at).lies in
       let here : AreAlike (hdu_made primary edit (parts_of one)) (hdu_made primary edit (filled (get_or (fills_of told hdus) i None) (parts_of one))) =
       subst (λ (f : Option (List ℕ)). AreAlike (hdu_made primary edit (parts_of one)) (hdu_made primary edit (filled f (parts_of one)))) (sym fill) (alike_filled primary edit (parts_of one) (fill_of told one) fine long) in
@@ -346,35 +359,35 @@ marked_as us vs s t a b parts tails marks =
     ∙ ap (λ (kept : List Bool). let it : Marked = record { file = record { hdus = vs; tail = t }; kept = kept; tables = false } in it) marks
 
 -- the parts over a file are those that stand for them
-parts_left : (told : List ℕ) (hdus : List HduState) (absences : List (Option Absence)) (us : List HduParts) → absences_of hdus ≡ absences → hdus_of hdus ≡ us → hdus_of (map (hdu_at told) hdus) ≡ told_all told absences us
-parts_left told hdus absences us away parts = told_parts told hdus ∙ ap (λ (as_are : List (Option Absence)). told_all told as_are (hdus_of hdus)) away ∙ ap (told_all told absences) parts
+parts_left : (told : List ℕ) (hdus : List HduState) (places : List (Option ℕ)) (us : List HduParts) → unread_of hdus ≡ places → hdus_of hdus ≡ us → hdus_of (map (hdu_at told) hdus) ≡ told_all told places us
+parts_left told hdus places us unread parts = told_parts told hdus ∙ ap (λ (as_are : List (Option ℕ)). told_all told as_are (hdus_of hdus)) unread ∙ ap (told_all told places) parts
 
 -- and it leaves the same
 pub any_after : (told : List ℕ) (edit : Edit) (hdus : List HduState) (tail : List ℕ) (new : SessionState) → IsFile (file_of (state_of hdus tail)) → All IsDescribed hdus → IsReadyFor edit hdus → AllLie told hdus
-    → marked_of new ≡ marked_after (marked_of (state_of hdus tail)) edit → absences_of new.hdus ≡ absences_after edit (absences_of hdus)
+    → marked_of new ≡ marked_after (marked_of (state_of hdus tail)) edit → unread_of new.hdus ≡ unread_after edit (unread_of hdus)
     → marked_of (session_at told new) ≡ marked_after (marked_of (session_at told (state_of hdus tail))) edit
 unfolding marked_after file_after
-any_after told (Hdu h edit) hdus tail new whole described ready lie is away =
+any_after told (Hdu h edit) hdus tail new whole described ready lie is unread =
     let marks : kept_of (map (hdu_at told) hdus) ≡ kept_of hdus = kept_at_told told hdus in
     let us : List HduParts = changed_of h (hdu_edited (is_primary_hdu h) edit) (hdus_of (map (hdu_at told) hdus)) in
-    let parts = parts_left told new.hdus (absences_of hdus) (changed_of h (stamped_if (stamp_follows edit (is_kept (kept_of hdus) h))) (changed_of h (hdu_edited (is_primary_hdu h) edit) (hdus_of hdus))) away (ap (λ (it : Marked). it.file.hdus) is)
+    let parts = parts_left told new.hdus (unread_of hdus) (changed_of h (stamped_if (stamp_follows edit (is_kept (kept_of hdus) h))) (changed_of h (hdu_edited (is_primary_hdu h) edit) (hdus_of hdus))) unread (ap (λ (it : Marked). it.file.hdus) is)
     ∙ list_told told hdus tail edit whole described lie h ready
     ∙ ap (λ (kept : List Bool). changed_of h (stamped_if (stamp_follows edit (is_kept kept h))) us) (sym marks) in
     marked_as (hdus_of (map (hdu_at told) new.hdus)) (changed_of h (stamped_if (stamp_follows edit (is_kept (kept_of (map (hdu_at told) hdus)) h))) us) new.tail tail (kept_of (map (hdu_at told) new.hdus)) (changed_of h (kept_after edit) (kept_of (map (hdu_at told) hdus)))
     parts (ap (λ (it : Marked). it.file.tail) is) (kept_at_told told new.hdus ∙ ap (λ (it : Marked). it.kept) is ∙ ap (changed_of h (kept_after edit)) (sym marks))
-any_after told (NewImage h kind axes) hdus tail new whole described ready lie is away =
+any_after told (NewImage h kind axes) hdus tail new whole described ready lie is unread =
     let marks : kept_of (map (hdu_at told) hdus) ≡ kept_of hdus = kept_at_told told hdus in
-    let count : length (absences_of hdus) ≡ length (hdus_of hdus) = length-map hdus (λ (one : HduState). one.absent) ∙ sym (length-hdus_of hdus) in
-    let parts = parts_left told new.hdus (insert (absences_of hdus) (h - 1) None) (insert (hdus_of hdus) (h - 1) (new_image kind axes)) away (ap (λ (it : Marked). it.file.hdus) is)
-    ∙ insert_told told (absences_of hdus) (hdus_of hdus) (h - 1) (new_image kind axes) count
+    let count : length (unread_of hdus) ≡ length (hdus_of hdus) = length-map (absences_of hdus) unread_at ∙ length-map hdus (λ (one : HduState). one.absent) ∙ sym (length-hdus_of hdus) in
+    let parts = parts_left told new.hdus (insert (unread_of hdus) (h - 1) None) (insert (hdus_of hdus) (h - 1) (new_image kind axes)) unread (ap (λ (it : Marked). it.file.hdus) is)
+    ∙ insert_told told (unread_of hdus) (hdus_of hdus) (h - 1) (new_image kind axes) count
     ∙ ap (λ (us : List HduParts). insert us (h - 1) (new_image kind axes)) (sym (told_parts told hdus)) in
     marked_as (hdus_of (map (hdu_at told) new.hdus)) (insert (hdus_of (map (hdu_at told) hdus)) (h - 1) (new_image kind axes)) new.tail tail (kept_of (map (hdu_at told) new.hdus)) (insert (kept_of (map (hdu_at told) hdus)) (h - 1) false)
     parts (ap (λ (it : Marked). it.file.tail) is) (kept_at_told told new.hdus ∙ ap (λ (it : Marked). it.kept) is ∙ ap (λ (kept : List Bool). insert kept (h - 1) false) (sym marks))
-any_after told (RemoveHdu h) hdus tail new whole described ready lie is away =
+any_after told (RemoveHdu h) hdus tail new whole described ready lie is unread =
     let marks : kept_of (map (hdu_at told) hdus) ≡ kept_of hdus = kept_at_told told hdus in
-    let count : length (absences_of hdus) ≡ length (hdus_of hdus) = length-map hdus (λ (one : HduState). one.absent) ∙ sym (length-hdus_of hdus) in
-    let parts = parts_left told new.hdus (remove (absences_of hdus) (h - 1)) (remove (hdus_of hdus) (h - 1)) away (ap (λ (it : Marked). it.file.hdus) is)
-    ∙ remove_told told (absences_of hdus) (hdus_of hdus) (h - 1) count
+    let count : length (unread_of hdus) ≡ length (hdus_of hdus) = length-map (absences_of hdus) unread_at ∙ length-map hdus (λ (one : HduState). one.absent) ∙ sym (length-hdus_of hdus) in
+    let parts = parts_left told new.hdus (remove (unread_of hdus) (h - 1)) (remove (hdus_of hdus) (h - 1)) unread (ap (λ (it : Marked). it.file.hdus) is)
+    ∙ remove_told told (unread_of hdus) (hdus_of hdus) (h - 1) count
     ∙ ap (λ (us : List HduParts). remove us (h - 1)) (sym (told_parts told hdus)) in
     marked_as (hdus_of (map (hdu_at told) new.hdus)) (remove (hdus_of (map (hdu_at told) hdus)) (h - 1)) new.tail tail (kept_of (map (hdu_at told) new.hdus)) (remove (kept_of (map (hdu_at told) hdus)) (h - 1))
     parts (ap (λ (it : Marked). it.file.tail) is) (kept_at_told told new.hdus ∙ ap (λ (it : Marked). it.kept) is ∙ ap (λ (kept : List Bool). remove kept (h - 1)) (sym marks))
@@ -384,6 +397,13 @@ pub any_same : (told : List ℕ) (old new : SessionState) → marked_of new ≡ 
 any_same told old new is away =
     marked_as (hdus_of (map (hdu_at told) new.hdus)) (hdus_of (map (hdu_at told) old.hdus)) new.tail old.tail (kept_of (map (hdu_at told) new.hdus)) (kept_of (map (hdu_at told) old.hdus))
     (parts_same_at told new.hdus old.hdus (ap (λ (it : Marked). it.file.hdus) is) away) (ap (λ (it : Marked). it.file.tail) is) (kept_at_told told new.hdus ∙ ap (λ (it : Marked). it.kept) is ∙ sym (kept_at_told told old.hdus))
+
+-- so it does where as much is to be read yet
+pub same_unread : (told : List ℕ) (old new : SessionState) → marked_of new ≡ marked_of old → unread_of new.hdus ≡ unread_of old.hdus → marked_of (session_at told new) ≡ marked_of (session_at told old)
+same_unread told old new is unread =
+    marked_as (hdus_of (map (hdu_at told) new.hdus)) (hdus_of (map (hdu_at told) old.hdus)) new.tail old.tail (kept_of (map (hdu_at told) new.hdus)) (kept_of (map (hdu_at told) old.hdus))
+    (parts_left told new.hdus (unread_of old.hdus) (hdus_of old.hdus) unread (ap (λ (it : Marked). it.file.hdus) is) ∙ sym (told_parts told old.hdus))
+    (ap (λ (it : Marked). it.file.tail) is) (kept_at_told told new.hdus ∙ ap (λ (it : Marked). it.kept) is ∙ sym (kept_at_told told old.hdus))
 
 -- ---- what is asked
 

@@ -78,9 +78,10 @@ abbrev pub LoadsAt : (times h : ℕ) → SessionState → SessionState → Type 
 LoadsAt times h old new = (new ≡ old) ⊎ LoadsAlone times h old new
 
 -- how often an edit may have each block scanned as data are loaded for it: all of them once as they pass by, and, where pixels are to be
--- painted, those of the pieces that hold them once more
+-- painted, those of the pieces that hold them once more; where an array is to be made another, all of them, if they are wanted in memory
 abbrev pub load_times : HduEdit → ℕ
 load_times (Pixels lo hi paint) = 2
+load_times (Reshape kind axes) = 2
 load_times edit = 1
 
 -- so it was where an edit of it needs data; else nothing changes

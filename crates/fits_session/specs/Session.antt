@@ -3,7 +3,7 @@ use Rattle.std.specs.Prelude.{◌≡◌, ◌⊎◌, ℕ, Bool, false, Option, �
 use Rattle.std.specs.List.{insert, remove, slice_get}
 use Rattle.fits_pixels.specs.Layout.{block_count}
 use Rattle.fits_passing.specs.Hdu.{HduParts}
-use Rattle.fits_unit.specs.DataUnit.{Absence}
+use Rattle.fits_unit.specs.DataUnit.{unread_at, Absence}
 use Rattle.fits_hdu.specs.State.{HduState, hdu_at, parts_of, IsDescribed}
 pub use Rattle.fits_hdu.specs.State.{HasImage, HasPixels, HasStats, IsSeen}
 use Rattle.fits_passing.specs.declared.called.ExtensionName.{ExtensionName}
@@ -25,7 +25,7 @@ use Rattle.fits_edit.specs.declared.hdu_edit.HduEdit.{HduEdit}
 use Rattle.fits_edit.specs.declared.card_edit.CardEdit.{CardEdit}
 use Rattle.fits_edit.specs.declared.hdu_edit.HduEdit.TheVariants.{Cards, Reshape}
 use Rattle.fits_making.specs.declared.refusal.Refusal.{Refusal}
-use Rattle.fits_making.specs.Making.{Holding, IsHad, HduWork, unread, IsReadyTo}
+use Rattle.fits_making.specs.Making.{Holding, IsHad, HduWork, unread, IsReadyTo, KeepsSeen}
 
 -- HDUs under edits, and the bytes that trail them
 pub record SessionState : Type 0 where
@@ -40,11 +40,15 @@ session_at told session = record session { hdus = map (hdu_at told) session.hdus
 abbrev pub absences_of : List HduState → List (Option Absence)
 absences_of hdus = map (λ (one : HduState). one.absent) hdus
 
+-- where each lies that is to be read yet
+abbrev pub unread_of : List HduState → List (Option ℕ)
+unread_of hdus = map unread_at (absences_of hdus)
+
 -- the same after an edit: they go with their HDUs, and a new image is in memory
-abbrev pub absences_after : Edit → List (Option Absence) → List (Option Absence)
-absences_after (Hdu h edit) absences = absences
-absences_after (NewImage at kind axes) absences = insert absences (at - 1) None
-absences_after (RemoveHdu h) absences = remove absences (h - 1)
+abbrev pub unread_after : Edit → List (Option ℕ) → List (Option ℕ)
+unread_after (Hdu h edit) places = places
+unread_after (NewImage at kind axes) places = insert places (at - 1) None
+unread_after (RemoveHdu h) places = remove places (h - 1)
 
 -- the parts of each HDU
 abbrev pub hdus_of : List HduState → List HduParts
@@ -159,7 +163,7 @@ pub record EditsTo {X : Type 0} (edit : Edit) (old new : SessionState) (result :
   pub work : WorksAs edit old new
   pub idle : OnErr result (AreIdle edit (works_of old.hdus) (works_of new.hdus))
   pub room : OnErr result (rooms_of new.hdus ≡ rooms_of old.hdus)
-  pub absences : OnOk result (absences_of new.hdus ≡ absences_after edit (absences_of old.hdus))
+  pub unread : OnOk result (unread_of new.hdus ≡ unread_after edit (unread_of old.hdus))
   pub away : OnErr result (absences_of new.hdus ≡ absences_of old.hdus)
 
 -- a query of HDU h owes: the file stays, and so many of that HDU's cards are read at most
@@ -221,6 +225,11 @@ abbrev pub IsReadyFor : Edit → List HduState → Type 0
 IsReadyFor (Hdu h edit) hdus = IsSoOf (IsReadyTo edit) h hdus
 IsReadyFor edit hdus = Unit {0}
 
+-- what is known stays known where an edit is made: the array that it makes another is in memory
+abbrev pub KeepsSeenIn : Edit → List HduState → Type 0
+KeepsSeenIn (Hdu h edit) hdus = IsSoOf (KeepsSeen edit) h hdus
+KeepsSeenIn edit hdus = Unit {0}
+
 -- none of so many HDUs is HDU h
 abbrev pub IsNowhere : ℕ → ℕ → Type 0
 IsNowhere count h = (h ≡ 0) ⊎ (count < h)
@@ -251,4 +260,5 @@ pub record LooksAt (edit : Edit) (old new : SessionState) : Type 0 where
   pub rooms : rooms_of new.hdus ≡ rooms_of old.hdus
   pub reads : LookReads edit old new
   pub ready : IsReadyFor edit old.hdus → IsReadyFor edit new.hdus
+  pub keeps : KeepsSeenIn edit old.hdus → KeepsSeenIn edit new.hdus
   pub absences : absences_of new.hdus ≡ absences_of old.hdus

@@ -5,11 +5,14 @@ ghost use Rattle.fits_image.specs.Kind.{kind_in};
 ghost use Rattle.fits_session.specs.Away.{IsToldOn};
 ghost use Rattle.fits_stream.specs.Stream.{Prints};
 ghost use Rattle.fits_passing.specs.Hdu.{hdu_bytes};
+ghost use Rattle.fits_rules.specs.Image.{array_bits};
+ghost use Rattle.fits_hdu.specs.Reshape.{HasArray};
 ghost use Rattle.fits_hdu.specs.State.{hdu_at, parts_of, HasPixels, IsSeen, ReadsUpTo};
 ghost use Rattle.fits_hdu.specs.Work.{HasHduTotal, Loads, WritesHdu};
 ghost use Rattle.fits_making.specs.Making.{IsHad};
 
 use fits_hdu::Hdu;
+use fits_image::Kind;
 use fits_stream::{ReadLog, Sink, Stored, buffer_of};
 use fits_unit::{CopyFault, LoadFault};
 use std::alloc::{AllocError, Global};
@@ -88,6 +91,35 @@ pub trait Holder {
             → IfErr result (λ why. why ≡ LoadFault.Changed → ⊥) }
         ensures follows { Follows log.old log.new };
 
+    /// Has the pixels of an HDU in memory, if it is an array of integers, or its data unit known, where
+    /// they can be converted to such a kind as they are read.
+    ///
+    /// Where a call fails, what was read before may stay.
+    fn load_array(
+        &mut self,
+        alloc: Global,
+        hdu: &mut Hdu,
+        kind: Kind,
+        log: &mut ReadLog,
+    ) -> Result<(), LoadFault>
+        requires { IsHad (record { whole = whole; told = None }) hdu.old }
+        ensures held { OnOk result (HasArray kind hdu.new) }
+        ensures array { OnErr result (IsSome (array_bits hdu.old.header.shape)) }
+        ensures had { IsHad (record { whole = whole; told = None }) hdu.new }
+        ensures same { (told : List ℕ) → IsToldOn whole told log.new hdu.old
+            → parts_of (hdu_at told hdu.new) ≡ parts_of (hdu_at told hdu.old) }
+        ensures lies { (told : List ℕ) → IsToldOn whole told log.new hdu.old
+            → IsToldOn whole told log.new hdu.new }
+        ensures known { IsSeen hdu.old → IsSeen hdu.new }
+        ensures loads { Loads 2 hdu.old hdu.new }
+        ensures idle { HasArray kind hdu.old → hdu.new ≡ hdu.old }
+        ensures at_once { HasArray kind hdu.old → IsOk result }
+        ensures quiet { OnOk result (log.new.failures ≡ log.old.failures) }
+        ensures counted { IfErr result (LoadCounts log.old.failures log.new.failures) }
+        ensures unchanged { (told : List ℕ) → IsToldOn whole told log.new hdu.old
+            → IfErr result (λ why. why ≡ LoadFault.Changed → ⊥) }
+        ensures follows { Follows log.old log.new };
+
     /// Writes an HDU: what isn't in memory of its data unit is read, where it lies in the file. It takes
     /// no memory.
     fn emit<W: Sink>(
@@ -144,6 +176,16 @@ impl Holder for InMemory {
         _hdu: &mut Hdu,
         _lo: &[u64],
         _hi: &[u64],
+        _log: &mut ReadLog,
+    ) -> Result<(), LoadFault> {
+        Ok(())
+    }
+
+    fn load_array(
+        &mut self,
+        _alloc: Global,
+        _hdu: &mut Hdu,
+        _kind: Kind,
         _log: &mut ReadLog,
     ) -> Result<(), LoadFault> {
         Ok(())
@@ -224,6 +266,16 @@ impl<'f, F: Stored> Holder for InFile<'f, F> {
         log: &mut ReadLog,
     ) -> Result<(), LoadFault> {
         hdu.load_rect(alloc, self.file, log, self.room.as_mut_slice(), lo, hi)
+    }
+
+    fn load_array(
+        &mut self,
+        alloc: Global,
+        hdu: &mut Hdu,
+        kind: Kind,
+        log: &mut ReadLog,
+    ) -> Result<(), LoadFault> {
+        hdu.load_array(alloc, self.file, log, self.room.as_mut_slice(), kind)
     }
 
     fn emit<W: Sink>(

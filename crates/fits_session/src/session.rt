@@ -144,13 +144,13 @@ impl Session {
 
 impl<H: Holder + Drop> Session<H> {
     ghost use Rattle.std.specs.Prelude.{◌≡◌, ℕ, List, true, length, None, All, IfOk};
-    ghost use Rattle.fits_session.specs.Away.{AllLie, LieStill};
+    ghost use Rattle.fits_session.specs.Away.{AllLie};
     ghost use Rattle.fits_passing.specs.Work.{name_reads};
     ghost use Rattle.fits_hdu.specs.State.{IsDescribed};
     ghost use Rattle.fits_hdu.specs.Work.{IsOpened};
     ghost use Rattle.fits_passing.specs.File.{file_bytes, IsFile};
     ghost use Rattle.fits_session.specs.Marked.{unmarked};
-    ghost use Rattle.fits_session.specs.Session.{file_of, marked_of, session_at, state_of, EditsTo, IsHeld, IsReadyFor, IsSeen};
+    ghost use Rattle.fits_session.specs.Session.{file_of, marked_of, session_at, state_of, EditsTo, IsHeld, IsReadyFor, IsSeen, KeepsSeenIn};
     ghost use Rattle.fits_making.specs.Making.{IsHad};
 
     // The session of the HDUs of a file, how many bytes it has, and the bytes after the last HDU.
@@ -194,7 +194,9 @@ impl<H: Holder + Drop> Session<H> {
     pub fn make(&mut self, edit: Edit) -> Result<(), Refusal>
         requires { IsReadyFor edit self.old.hdus }
         ensures edits { EditsTo edit self.old self.new result }
-        ensures stays { LieStill self.old.hdus self.new.hdus }
+        ensures lies { (told : List ℕ) → AllLie told self.old.hdus → AllLie told self.new.hdus }
+        ensures seen { KeepsSeenIn edit self.old.hdus
+            → All IsSeen self.old.hdus → All IsSeen self.new.hdus }
     {
         match &edit {
             Edit::Hdu { hdu, edit } => self.edit_hdu(*hdu, edit),

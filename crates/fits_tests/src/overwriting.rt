@@ -69,7 +69,7 @@ fn make<R: Abort + AllocGlobal>(
         assert!(rt; false, "{line}");
         return;
     };
-    match session.load_for(&edit, log) {
+    match session.load_for(&edit, Look::Headers, log) {
         Ok(()) => assert!(rt; session.make(edit).is_ok(), "{line}"),
         Err(_) => assert!(rt; false, "{line}"),
     }

@@ -49,7 +49,7 @@ pub fn opened<R: Abort + AllocGlobal>(
 fn is_small(hdu: &Hdu) -> bool
     ensures { IsTrue result → length (hdu_bytes (parts_of hdu.now)) ≤ 2 ^ 34 }
 {
-    hdu.card_count() < 1000 && hdu.data_len() < 1_000_000
+    hdu.card_count() < 1000 && hdu.data_len() < 100_000_000
 }
 
 /// How many cards and bytes of data an HDU has, its kind, its statistics, its sum and its verdicts.
@@ -216,7 +216,7 @@ fn a_data_unit_is_loaded(rt: HostRuntime) -> Result<(), Fail> {
 fn check_loaded<R: Abort + AllocGlobal>(rt: &R, file: &[u8], row: HduRow<'_>) -> Result<(), Fail> {
     let stored = stored_bytes(file, file.len());
     let mut found = stored_away(rt.alloc(), &stored, is_primary(row))?;
-    let mut room = [0u8; 400];
+    let mut room = [0u8; 46_080];
     let mut log = ReadLog::none();
     found.load(rt.alloc(), &stored, &mut log, &mut room)?;
     found.load(rt.alloc(), &broken_bytes(&[], 0), &mut log, &mut room)?;
@@ -245,7 +245,7 @@ pub fn check_copy<R: Abort + AllocGlobal, F: Stored>(
     wanted: &[u8],
 ) -> Result<(), AllocError> {
     let mut bytes = vec![in rt.alloc(); 0u8; room]?;
-    holds!(rt; bytes.len() >= 2880, room);
+    holds!(rt; bytes.len() >= 46_080, room);
     let mut sink = writer(rt.alloc(), SMOOTH);
     let copied = hdu.emit_from(file, &mut ReadLog::none(), bytes.as_mut_slice(), &mut sink);
     holds!(rt; copied.is_ok(), room);
@@ -255,7 +255,7 @@ pub fn check_copy<R: Abort + AllocGlobal, F: Stored>(
 }
 
 /// How many bytes of a file a copy holds at once.
-const ROOMS: &[usize] = &[2880, 2883, 65_536];
+const ROOMS: &[usize] = &[46_080, 46_083, 65_536];
 
 #[test]
 fn an_hdu_is_copied_from_its_file(rt: HostRuntime) -> Result<(), Fail> {
@@ -278,7 +278,7 @@ fn check_copies<R: Abort + AllocGlobal>(
     let stored = stored_bytes(file, file.len());
     let mut hdu = stored_away(rt.alloc(), &stored, is_primary(row))?;
     check_copy(rt, &mut hdu, &stored, room, hdu_in(file))?;
-    let mut piece = [0u8; 2880];
+    let mut piece = [0u8; 46_080];
     hdu.load(rt.alloc(), &stored, &mut ReadLog::none(), &mut piece)?;
     check_copy(rt, &mut hdu, &broken_bytes(&[], 0), room, hdu_in(file))?;
     Ok(())

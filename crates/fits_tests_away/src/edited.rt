@@ -56,8 +56,8 @@ fn check_edited<R: Abort + AllocGlobal, F: Stored>(
     let (row, place, cards, is_counted) = case;
     put_cards(rt, found, place, cards)?;
     check_counted(rt, found, edited, row, is_counted)?;
-    check_copy(rt, found, file, 2880, edited)?;
-    let mut room = [0u8; 2880];
+    check_copy(rt, found, file, 46_080, edited)?;
+    let mut room = [0u8; 46_080];
     found.load(rt.alloc(), file, &mut ReadLog::none(), &mut room)?;
     check_held(rt, found, edited, row)
 }

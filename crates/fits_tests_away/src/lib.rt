@@ -6,6 +6,8 @@ mod away;
 #[cfg(test)]
 mod checks;
 #[cfg(test)]
+mod converted;
+#[cfg(test)]
 mod edited;
 #[cfg(test)]
 mod hdus;

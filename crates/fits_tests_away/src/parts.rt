@@ -112,7 +112,7 @@ fn check_part<R: Abort + AllocGlobal>(
         check_same_unit(rt, &mut found, &wanted, &stored)?;
         check_pieces(rt, &found, &wanted, bytes);
     }
-    let mut room = [0u8; 400];
+    let mut room = [0u8; 46_080];
     found.load(rt.alloc(), &stored, &mut ReadLog::none(), &mut room)?;
     holds!(rt; found.is_held());
     check_pieces(rt, &found, &wanted, bytes);
@@ -215,7 +215,7 @@ fn check_same_unit<R: Abort + AllocGlobal, F: Stored>(
     found.set_blank(wanted.layout().blank);
     holds!(rt; found.is_counted(), case);
     same!(rt; answers_of(found), answers_of_plane(wanted), case);
-    let mut room = [0u8; 3000];
+    let mut room = [0u8; 46_083];
     let (mut sink, mut all) = (writer(rt.alloc(), SMOOTH), writer(rt.alloc(), SMOOTH));
     holds!(rt; found.emit_from(file, &mut ReadLog::none(), &mut room, &mut sink).is_ok(), case);
     holds!(rt; wanted.emit(&mut all).is_ok(), case);

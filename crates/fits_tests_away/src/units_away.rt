@@ -169,7 +169,7 @@ fn check_unit_away<R: Abort + AllocGlobal>(
     let mut found = DataUnit::away(rt.alloc(), AwayUnit::Passed(unit), UNIT_AT)?;
     holds!(rt; !found.is_held());
     check_unit(rt, &mut found, &stored, bytes, layout)?;
-    let mut room = [0u8; 400];
+    let mut room = [0u8; 46_080];
     found.load(rt.alloc(), &stored, &mut ReadLog::none(), &mut room)?;
     holds!(rt; found.is_held());
     check_unit(rt, &mut found, &broken_bytes(&[], 0), bytes, layout)
@@ -199,7 +199,7 @@ fn check_unit<R: Abort + AllocGlobal, F: Stored>(
     same!(rt; found.is_counted(), found.is_held());
     found.set_blank(layout.blank);
     check_answers(rt, found, bytes, layout)?;
-    let mut room = [0u8; 3000];
+    let mut room = [0u8; 46_083];
     let mut sink = writer(rt.alloc(), SMOOTH);
     let log = &mut ReadLog::none();
     holds!(rt; found.emit_from(file, log, &mut room, &mut sink).is_ok());

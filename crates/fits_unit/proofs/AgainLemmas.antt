@@ -1,11 +1,11 @@
 -- Bytes of a stored file that are read again.
 use Rattle.std.proofs.Common.{refl, ◌≡◌, ◌+◌, ◌<◌, ◌≤◌, ◌%◌, ◌/◌, ℕ, List, [], ◌++◌, length, min, take, drop, ap, sym, ◌∙◌, arith, subst, append_assoc, true, Option, None, Some}
-use Rattle.std.specs.Prelude.{Bool, false, if◌then◌else◌, IfSome}
+use Rattle.std.specs.Prelude.{Bool, false, ◌||◌, if◌then◌else◌, is_some, IfSome}
 use Rattle.std.proofs.lemmas.List.{append-nil, length-append, length-drop, length-take, take-append-drop, take-take, take_all}
 use Rattle.std.proofs.Math.Seq.{take-append_seam}
 use Rattle.std.specs.List.{slice_get}
-use Rattle.fits_stream.specs.Agree.{IsOf, ReadsOn, ReadsSome}
-use Rattle.fits_stream.specs.Log.{unskipped, Adds, Grows, Logs}
+use Rattle.fits_stream.specs.Agree.{IsOf, ReadsOn}
+use Rattle.fits_stream.specs.Log.{unskipped, Adds, Logs}
 use Rattle.fits_stream.specs.Stored.{Lent, ReadLogState}
 use Rattle.fits_stream.specs.Stream.{SinkState, SourceState, FailsOnce, IsDry, Prints, PrintsFront, Reads}
 use Rattle.fits_stream.proofs.AgreeLemmas.{of_before, of_read, reads_on}
@@ -14,7 +14,9 @@ use Rattle.fits_stream.proofs.StreamLemmas.{PrintsFront-longer, Reads-more}
 use Rattle.fits_sum.specs.Words.{word_total}
 use Rattle.fits_sum.proofs.WordLemmas.{word_total-append}
 use Rattle.fits_unit.specs.Again.{CopyFails, CopyNextStops, CopyStops, Follows, LoadStops, NextShort, NextStops, ReadsFewer}
-use Rattle.fits_unit.specs.DataUnit.{away_at, away_plane, unit_at, Absence, IsKnown, Lies}
+use Rattle.fits_unit.specs.Absence.{source_size}
+use Rattle.fits_unit.specs.DataUnit.{away_at, away_plane, is_settled, unit_at, unit_from, Absence, IsKnown, Lies}
+use Rattle.fits_unit.specs.declared.origin.Origin.{Origin}
 use Rattle.fits_unit.specs.declared.away_unit.AwayUnit.{AwayUnit}
 use Rattle.fits_unit.specs.declared.again.CopyFault.{CopyFault}
 use Rattle.fits_unit.specs.declared.again.CopyFault.TheVariants.{Failed, Changed, Write}
@@ -106,59 +108,87 @@ copy_fails xs unit place log log' old new Write is lies p =
     let front = front_read xs unit p.bytes p.rest place log log' p.read is lies p.few in
     subst (λ t. PrintsFront t old new) (ap (λ t. t ++ drop (length p.bytes) unit) (sym front) ∙ take-append-drop (length p.bytes) unit) (PrintsFront-longer old new p.bytes (drop (length p.bytes) unit) p.ends)
 
+-- one that doesn't come of others is settled where it is known
+settled_is : (it : Absence) → it.origin ≡ None → is_settled it ≡ it.known
+settled_is it none = ap (λ (o : Option Origin). is_some o || it.known) none
+
+settled_case : (o : Option Origin) (known : Bool) → known ≡ true → (is_some o || known) ≡ true
+settled_case None known is = is
+settled_case (Some origin) known is = refl
+
+-- what is known is settled
+pub known_settled : (it : Absence) → it.known ≡ true → is_settled it ≡ true
+known_settled it known = settled_case it.origin it.known known
+
+-- there are as many bytes at its place, where it doesn't come of others
+there_within : (xs own : List ℕ) (it : Absence) → it.origin ≡ None → Lies xs own it → it.place + length own ≤ length xs
+there_within xs own it none lies = subst (λ (o : Option Origin). it.place + source_size o own ≤ length xs) none lies.there
+
+-- and where it is known they are what passed by
+pub there_same : (xs own : List ℕ) (it : Absence) → it.origin ≡ None → Lies xs own it → it.known ≡ true → take (length own) (drop it.place xs) ≡ it.passed
+there_same xs own it none lies known = subst (λ (o : Option Origin). take (source_size o own) (drop it.place xs) ≡ it.passed) none (lies.same (settled_is it none ∙ known))
+
 -- what lies at its place is as long as it
-pub there_long : (xs own : List ℕ) (it : Absence) → Lies xs own it → length (take (length own) (drop it.place xs)) ≡ length own
-there_long xs own it lies = omega (arith, lies.there, length-drop it.place xs, length-take (length own) (drop it.place xs))
+pub there_long : (xs own : List ℕ) (it : Absence) → it.origin ≡ None → Lies xs own it → length (take (length own) (drop it.place xs)) ≡ length own
+there_long xs own it none lies = omega (arith, there_within xs own it none lies, length-drop it.place xs, length-take (length own) (drop it.place xs))
 
 -- and all of what lies there
-there_whole : (xs own : List ℕ) (it : Absence) → Lies xs own it → take (length (take (length own) (drop it.place xs))) (drop it.place xs) ≡ take (length own) (drop it.place xs)
-there_whole xs own it lies = ap (λ n. take n (drop it.place xs)) (there_long xs own it lies)
+there_whole : (xs own : List ℕ) (it : Absence) → it.origin ≡ None → Lies xs own it → take (length (take (length own) (drop it.place xs))) (drop it.place xs) ≡ take (length own) (drop it.place xs)
+there_whole xs own it none lies = ap (λ n. take n (drop it.place xs)) (there_long xs own it none lies)
 
 -- which is the unit in that file, where none of it was painted
-unit_there : (xs own : List ℕ) (it : Absence) (known : Bool) → it.known ≡ known → Lies xs own it → it.passed ≡ own → take (length own) (drop it.place xs) ≡ (if known then own else take (length own) (drop it.place xs))
-unit_there xs own it true is lies same = lies.same is ∙ same
-unit_there xs own it false is lies same = refl
+unit_there : (xs own : List ℕ) (it : Absence) (known : Bool) → it.known ≡ known → it.origin ≡ None → Lies xs own it → it.passed ≡ own → take (length own) (drop it.place xs) ≡ unit_from xs own (if known then None else Some it.place)
+unit_there xs own it true is none lies same = there_same xs own it none lies is ∙ same
+unit_there xs own it false is none lies same = refl
 
 -- one that is what passed by lies in the file
-pub told_unit : (xs own : List ℕ) (it : Absence) → Lies xs own it → it.passed ≡ own → take (length own) (drop it.place xs) ≡ unit_at xs own (Some it)
-told_unit xs own it lies same = unit_there xs own it it.known refl lies same
+pub told_unit : (xs own : List ℕ) (it : Absence) → it.origin ≡ None → Lies xs own it → it.passed ≡ own → take (length own) (drop it.place xs) ≡ unit_at xs own (Some it)
+told_unit xs own it none lies same = unit_there xs own it it.known refl none lies same ∙ ap (λ (b : Bool). unit_from xs own (if b then None else Some it.place)) (sym (settled_is it none))
 
--- one that is known is the same in each file
+-- one that is settled is the same in each file
+pub settled_unit : (xs own : List ℕ) (it : Absence) → is_settled it ≡ true → unit_at xs own (Some it) ≡ own
+settled_unit xs own it settled = ap (λ (b : Bool). unit_from xs own (if b then None else Some it.place)) settled
+
+-- so is one that is known
 pub seen_unit : (xs own : List ℕ) (absent : Option Absence) → IsKnown absent → unit_at xs own absent ≡ own
 seen_unit xs own None known = refl
-seen_unit xs own (Some it) known = ap (λ (b : Bool). if b then own else take (length own) (drop it.place xs)) known
+seen_unit xs own (Some it) known = settled_unit xs own it (known_settled it known)
 
 -- it is as long there: one that is known is the same
-long_there : (xs own : List ℕ) (it : Absence) (known : Bool) → Lies xs own it → length (if known then own else take (length own) (drop it.place xs)) ≡ length own
-long_there xs own it true lies = refl
-long_there xs own it false lies = there_long xs own it lies
+long_there : (xs own : List ℕ) (it : Absence) (known : Bool) → it.origin ≡ None → Lies xs own it → length (unit_from xs own (if known then None else Some it.place)) ≡ length own
+long_there xs own it true none lies = refl
+long_there xs own it false none lies = there_long xs own it none lies
+
+long_by : (xs own : List ℕ) (it : Absence) (o : Option Origin) → it.origin ≡ o → Lies xs own it → length (unit_from xs own (if (is_some o || it.known) then None else Some it.place)) ≡ length own
+long_by xs own it None none lies = long_there xs own it it.known none lies
+long_by xs own it (Some origin) some lies = refl
 
 -- so is any data unit that lies there
 pub unit_long : (xs own : List ℕ) (absent : Option Absence) → IfSome absent (Lies xs own) → length (unit_at xs own absent) ≡ length own
 unit_long xs own None lies = refl
-unit_long xs own (Some it) lies = long_there xs own it it.known lies
+unit_long xs own (Some it) lies = long_by xs own it it.origin refl lies
 
 -- so of one that is away
 pub told_away : (xs : List ℕ) (place : ℕ) (it : AwayUnit) (bytes : List ℕ) → Lies xs (away_plane it).bytes (away_at place it) → bytes ≡ take (length (away_plane it).bytes) (drop place xs) → bytes ≡ unit_at xs (away_plane it).bytes (Some (away_at place it))
-told_away xs place it bytes lies read = read ∙ told_unit xs (away_plane it).bytes (away_at place it) lies refl
+told_away xs place it bytes lies read = read ∙ told_unit xs (away_plane it).bytes (away_at place it) refl lies refl
 
 -- what was read from its place on is what lies there
-pub read_there : (xs own bytes : List ℕ) (it : Absence) (old new : ReadLogState) → ReadsOn it.place old new bytes → IsOf xs new → Lies xs own it → length bytes ≡ length own → bytes ≡ take (length own) (drop it.place xs)
-read_there xs own bytes it old new p is lies size =
-    unit_read xs (take (length own) (drop it.place xs)) bytes it.place old new p is (there_whole xs own it lies) (size ∙ sym (there_long xs own it lies))
+pub read_there : (xs own bytes : List ℕ) (it : Absence) (old new : ReadLogState) → it.origin ≡ None → ReadsOn it.place old new bytes → IsOf xs new → Lies xs own it → length bytes ≡ length own → bytes ≡ take (length own) (drop it.place xs)
+read_there xs own bytes it old new none p is lies size =
+    unit_read xs (take (length own) (drop it.place xs)) bytes it.place old new p is (there_whole xs own it none lies) (size ∙ sym (there_long xs own it none lies))
 
 -- and where it is known, that is what passed by
-pub read_known : (xs own bytes : List ℕ) (it : Absence) (old new : ReadLogState) → ReadsOn it.place old new bytes → IsOf xs new → Lies xs own it → length bytes ≡ length own → it.known ≡ true → bytes ≡ it.passed
-read_known xs own bytes it old new p is lies size known = read_there xs own bytes it old new p is lies size ∙ lies.same known
+pub read_known : (xs own bytes : List ℕ) (it : Absence) (old new : ReadLogState) → it.origin ≡ None → ReadsOn it.place old new bytes → IsOf xs new → Lies xs own it → length bytes ≡ length own → it.known ≡ true → bytes ≡ it.passed
+read_known xs own bytes it old new none p is lies size known = read_there xs own bytes it old new none p is lies size ∙ there_same xs own it none lies known
 
 -- so it is the unit in that file, where none of it was painted
-pub read_unit : (xs own bytes : List ℕ) (it : Absence) (old new : ReadLogState) → ReadsOn it.place old new bytes → IsOf xs new → Lies xs own it → length bytes ≡ length own → it.passed ≡ own → bytes ≡ unit_at xs own (Some it)
-read_unit xs own bytes it old new p is lies size same = read_there xs own bytes it old new p is lies size ∙ told_unit xs own it lies same
+pub read_unit : (xs own bytes : List ℕ) (it : Absence) (old new : ReadLogState) → it.origin ≡ None → ReadsOn it.place old new bytes → IsOf xs new → Lies xs own it → length bytes ≡ length own → it.passed ≡ own → bytes ≡ unit_at xs own (Some it)
+read_unit xs own bytes it old new none p is lies size same = read_there xs own bytes it old new none p is lies size ∙ told_unit xs own it none lies same
 
 -- what lies there isn't copied whole for these reasons alone
-pub copy_fails_there : (xs own : List ℕ) (it : Absence) (log log' : ReadLogState) (old new : SinkState) (why : CopyFault) → IsOf xs log' → Lies xs own it → CopyStops it.place (length own) log log' old new why → CopyFails (take (length own) (drop it.place xs)) old new why
-copy_fails_there xs own it log log' old new why is lies p =
-    copy_fails xs (take (length own) (drop it.place xs)) it.place log log' old new why is (there_whole xs own it lies) (subst (λ n. CopyStops it.place n log log' old new why) (sym (there_long xs own it lies)) p)
+pub copy_fails_there : (xs own : List ℕ) (it : Absence) (log log' : ReadLogState) (old new : SinkState) (why : CopyFault) → it.origin ≡ None → IsOf xs log' → Lies xs own it → CopyStops it.place (length own) log log' old new why → CopyFails (take (length own) (drop it.place xs)) old new why
+copy_fails_there xs own it log log' old new why none is lies p =
+    copy_fails xs (take (length own) (drop it.place xs)) it.place log log' old new why is (there_whole xs own it none lies) (subst (λ n. CopyStops it.place n log log' old new why) (sym (there_long xs own it none lies)) p)
 
 -- a log goes on, also where bytes weren't copied
 pub copy_follows : (place len : ℕ) (log log' : ReadLogState) (old new : SinkState) (why : CopyFault) → CopyStops place len log log' old new why → Follows log log'

@@ -1,4 +1,6 @@
 pub mod AgainLemmas
+pub mod ConvertedLemmas
+pub mod ConvertingLemmas
 pub mod PartCopyLemmas
 pub mod PartLemmas
 pub mod PartLoadLemmas

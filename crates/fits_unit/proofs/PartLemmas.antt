@@ -1,5 +1,5 @@
 -- A data unit of which some pieces are in memory, under a painting; and what a file tells of its pieces.
-use Rattle.std.proofs.Common.{refl, ◌≡◌, ◌+◌, ◌-◌, ◌*◌, ◌<◌, ◌≤◌, ℕ, ℤ, Bool, false, true, Option, Some, List, length, get_or, take, drop, ap, sym, ◌∙◌, arith, subst, ◌++◌}
+use Rattle.std.proofs.Common.{◌≡◌, ◌+◌, ◌-◌, ◌*◌, ◌<◌, ◌≤◌, ℕ, false, List, length, get_or, take, drop, ap, sym, ◌∙◌, arith}
 use Rattle.std.proofs.lemmas.List.{length-drop, length-take}
 use Rattle.fits_plane.specs.declared.painting.Painting.{Painting}
 use Rattle.fits_plane.specs.Painting.{number_of, Paints}

@@ -18,6 +18,7 @@ use Rattle.fits_pieces.proofs.AwayLemmas.{away_most, away_none, away_set, loaded
 use Rattle.fits_pieces.proofs.LoadingLemmas.{held_once_loaded, missing_none, missing_within}
 use Rattle.fits_unit.specs.Absence.{part_of, IsPart, PartState}
 use Rattle.fits_unit.specs.DataUnit.{away_at, away_plane, is_passed, part_at, unit_at, Absence, Holds, IsAway, IsKnown, UnitState}
+use Rattle.fits_unit.proofs.AgainLemmas.{known_settled, settled_unit}
 use Rattle.fits_unit.specs.Part.{away_pieces, part_in, BeginsPart, LoadsMore, LoadsPart, LoadsSome}
 use Rattle.fits_unit.specs.declared.again.LoadFault.{LoadFault}
 use Rattle.fits_unit.specs.declared.away_unit.AwayUnit.{AwayUnit}
@@ -268,4 +269,4 @@ some_begun old mid new begun away p whole = some_begun_case old mid new new.abse
 
 -- one whose bytes are known is in a file what they are
 pub known_at : (told unit : List ℕ) (absent : Option Absence) (it : Absence) → absent ≡ Some it → it.known ≡ true → unit_at told unit absent ≡ unit
-known_at told unit absent it is known = ap (unit_at told unit) is ∙ ap (λ b. if b then unit else take (length unit) (drop it.place told)) known
+known_at told unit absent it is known = ap (unit_at told unit) is ∙ settled_unit told unit it (known_settled it known)

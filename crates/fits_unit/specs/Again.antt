@@ -1,5 +1,5 @@
 -- Bytes of a stored file that are read again (own).
-use Rattle.std.specs.Prelude.{◌≡◌, ◌<◌, ◌≤◌, ℕ, ◌+◌, Bool, false, true, List, [], ◌∷◌, ◌++◌, drop, length, take, Option, None, Some, MatchOption}
+use Rattle.std.specs.Prelude.{◌≡◌, ◌<◌, ◌≤◌, ℕ, ◌+◌, Bool, false, true, List, [], ◌∷◌, ◌++◌, drop, length, take, Option, None, Some, Result, IfErr, MatchOption}
 use Rattle.fits_stream.specs.Agree.{EndsAt, IsOf, ReadsOn, ReadsShort, ReadsSome}
 use Rattle.fits_stream.specs.Log.{Grows, IsEnded, Logs}
 use Rattle.fits_stream.specs.Stored.{ReadLogState}
@@ -7,7 +7,9 @@ use Rattle.fits_stream.specs.Stream.{SinkState, SourceState, Prints, PrintsFront
 use Rattle.fits_sum.specs.Words.{word_total}
 use Rattle.fits_pieces.specs.Pieces.{away_blocks}
 use Rattle.fits_plane.specs.Plane.{PlaneState}
-use Rattle.fits_unit.specs.Absence.{Absence, IsKnown}
+use Rattle.fits_unit.specs.Absence.{Absence, IsKnown, LiesIn, UnitState}
+use Rattle.fits_unit.specs.Converted.{converted_blocks, ReadsConverted}
+use Rattle.fits_unit.specs.declared.origin.Origin.{Origin}
 use Rattle.fits_unit.specs.declared.again.CopyFault.{CopyFault}
 use Rattle.fits_unit.specs.declared.again.CopyFault.TheVariants.{Failed, Changed, Write}
 use Rattle.fits_unit.specs.declared.again.LoadFault.{LoadFault}
@@ -16,6 +18,14 @@ use Rattle.fits_unit.specs.declared.again.LoadFault.TheVariants as load
 -- reads go on: a file of which the later ones may be is one of which the earlier ones may be
 abbrev pub Follows : ReadLogState → ReadLogState → Type 0
 Follows old new = (bytes : List ℕ) → IsOf bytes new → IsOf bytes old
+
+-- so it is whatever file the reads may be of in which a data unit lies, where not all of it is in memory
+abbrev pub InEachFile : ReadLogState → UnitState → (List ℕ → Type 0) → Type 0
+InEachFile log it IsSo = (told : List ℕ) → IsOf told log → LiesIn told it.plane it.absent → IsSo told
+
+-- the file isn't said to have changed
+abbrev pub IsUnchanged : {A : Type 0} → Result A LoadFault → Type 0
+IsUnchanged result = IfErr result (λ why. why ≡ load.Changed → ⊥)
 
 -- why bytes weren't read from a place on: memory was refused, a read failed, or fewer came
 abbrev pub LoadStops : ℕ → ℕ → ReadLogState → ReadLogState → LoadFault → Type 0
@@ -137,9 +147,14 @@ ReadsRest place (true ∷ held) unit log log' bytes =
 ReadsRest place (false ∷ held) unit log log' bytes =
     (mid : ReadLogState) × ReadsOn place log mid (take 46080 bytes) × ReadsRest (place + 46080) held (drop 46080 unit) mid log' (drop 46080 bytes)
 
+-- the same of one that may come of others
+abbrev pub ReadsUnit : Option Origin → List ℕ → Absence → ReadLogState → ReadLogState → List ℕ → Type 0
+ReadsUnit None unit it log log' bytes = ReadsRest it.place it.held unit log log' bytes
+ReadsUnit (Some origin) unit it log log' bytes = ReadsConverted origin log log' bytes
+
 -- so these were, as many as the unit has, with the same total, where it is known
 pub record ReadsBack (unit : List ℕ) (it : Absence) (log log' : ReadLogState) (bytes : List ℕ) : Type 0 where
-  pub read : ReadsRest it.place it.held unit log log' bytes
+  pub read : ReadsUnit it.origin unit it log log' bytes
   pub size : length bytes ≡ length unit
   pub total : it.known ≡ true → word_total bytes ≡ word_total unit
 
@@ -147,10 +162,15 @@ pub record ReadsBack (unit : List ℕ) (it : Absence) (log log' : ReadLogState) 
 abbrev pub IsUnitRead : List ℕ → Option Absence → ReadLogState → ReadLogState → List ℕ → Type 0
 IsUnitRead unit absent log log' bytes = MatchOption absent (bytes ≡ unit) (λ it. ReadsBack unit it log log' bytes)
 
+-- how many blocks are looked at with so many of a data unit: those that they come of, too
+abbrev pub with_source : Option Origin → ℕ → ℕ
+with_source None count = count
+with_source (Some origin) count = converted_blocks origin
+
 -- how many blocks are looked at as a data unit is written: those that aren't in memory
 abbrev pub copied_blocks : List ℕ → Option Absence → ℕ
 copied_blocks bytes None = 0
-copied_blocks bytes (Some it) = away_blocks it.held (length bytes)
+copied_blocks bytes (Some it) = with_source it.origin (away_blocks it.held (length bytes))
 
 -- so many blocks were looked at, at most
 pub record Looks (count : ℕ) (log log' : ReadLogState) : Type 0 where

@@ -3,9 +3,10 @@ use Rattle.std.specs.Prelude.{ℕ, ℤ, Bool, true, false, if◌then◌else◌, 
 use Rattle.fits_pixels.specs.Layout.{block_count}
 use Rattle.fits_plane.specs.Plane.{PlaneState}
 pub use Rattle.fits_pieces.specs.Piece.{piece_of, pieces_in}
-pub use Rattle.fits_unit.specs.Absence.{blanked, holds_piece, part_at, part_of, unit_at, Absence, Counts, HasRectangle, Holds, IsAway, IsCounted, IsKnown, IsPart, Lies, LiesIn, PartState, UnitState}
+pub use Rattle.fits_unit.specs.Converted.{converted, converted_at, converted_plane, converted_state, made_blank, CanConvert, ConvertedState, IsPassed}
+pub use Rattle.fits_unit.specs.Absence.{blanked, holds_piece, is_converted, is_settled, part_at, part_of, part_state, unit_at, unit_from, unit_in, unread_at, Absence, Counts, HasRectangle, Holds, IsAway, IsCounted, IsKnown, IsPart, Lies, LiesIn, PartState, UnitState}
 use Rattle.fits_unit.specs.declared.absent.Absent.{Absent}
-use Rattle.fits_unit.specs.declared.absent.Absent.TheVariants.{Away, InPart}
+use Rattle.fits_unit.specs.declared.absent.Absent.TheVariants.{Away, Converted, InPart}
 use Rattle.fits_unit.specs.declared.away_unit.AwayUnit.{AwayUnit}
 use Rattle.fits_unit.specs.declared.away_unit.AwayUnit.TheVariants.{Passed, Unread}
 
@@ -26,11 +27,16 @@ passed_blank (Unread it) = None
 
 -- where a unit lies that passed by, or is unread: no piece of it is in memory
 abbrev pub away_at : ℕ → AwayUnit → Absence
-away_at place it = record { place = place; known = is_passed it; blank = passed_blank it; passed = (away_plane it).bytes; held = [] }
+away_at place it = record { place = place; known = is_passed it; blank = passed_blank it; passed = (away_plane it).bytes; held = []; origin = None }
+
+-- it, as a data unit
+abbrev pub away_state : ℕ → AwayUnit → UnitState
+away_state place it = record { plane = away_plane it; absent = Some (away_at place it) }
 
 -- what is in memory of a unit, or what is known
 abbrev pub absent_plane : Absent → PlaneState
 absent_plane (Away it) = away_plane it.unit
+absent_plane (Converted it) = converted_plane it
 absent_plane (InPart it) = it.plane
 
 abbrev pub plane_of : PlaneState → Option Absent → PlaneState
@@ -40,7 +46,12 @@ plane_of plane (Some it) = absent_plane it
 -- where it lies
 abbrev pub lies_at : Absent → Absence
 lies_at (Away it) = away_at it.place it.unit
+lies_at (Converted it) = converted_at it
 lies_at (InPart it) = part_at it
+
+-- it, as a data unit
+abbrev pub absent_state : Absent → UnitState
+absent_state it = record { plane = absent_plane it; absent = Some (lies_at it) }
 
 abbrev pub absence_of : Option Absent → Option Absence
 absence_of None = None

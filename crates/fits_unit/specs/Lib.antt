@@ -1,5 +1,7 @@
 pub mod Absence
 pub mod Again
+pub mod Converted
+pub mod Converting
 pub mod DataUnit
 pub mod Part
 pub mod Passing

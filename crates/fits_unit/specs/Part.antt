@@ -1,6 +1,6 @@
 -- A data unit of which some pieces are in memory: its bytes had of there and of its file, and pieces that come into memory (own).
-use Rattle.std.specs.Prelude.{◌≡◌, ◌≤◌, ◌<◌, ℕ, ◌+◌, ◌-◌, ◌*◌, ◌/◌, ◌^◌, ◌++◌, Bool, false, true, if◌then◌else◌, not, count_by, min, List, [], Option, None, Some, get_or, length}
-use Rattle.fits_stream.specs.Agree.{ReadsOn}
+use Rattle.std.specs.Prelude.{◌≡◌, ◌≤◌, ◌<◌, ℕ, ◌+◌, ◌-◌, ◌*◌, ◌/◌, ◌^◌, ◌++◌, Bool, false, true, if◌then◌else◌, not, count_by, drop, min, take, List, [], Option, None, Some, get_or, length}
+use Rattle.fits_stream.specs.Agree.{IsOf, ReadsOn}
 use Rattle.fits_stream.specs.Stored.{ReadLogState}
 use Rattle.fits_stream.specs.Stream.{SinkState, Prints}
 use Rattle.fits_sum.specs.Words.{word_total}
@@ -43,6 +43,16 @@ pub record ReadsPiece (place j : ℕ) (it : PiecedState) (log log' : ReadLogStat
 abbrev pub away_pieces : List Bool → ℕ
 away_pieces held = count_by not held
 
+-- so it is whatever file the reads may be of that has at a place what passed by of such a unit
+abbrev pub WherePassed : ReadLogState → ℕ → PiecedState → Type 0 → Type 0
+WherePassed log place it IsSo =
+    (told : List ℕ) → IsOf told log → take (length it.plane.bytes) (drop place told) ≡ it.passed → IsSo
+
+-- the same of one that says its place
+abbrev pub WherePartPassed : ReadLogState → PartState → Type 0 → Type 0
+WherePartPassed log it IsSo =
+    (told : List ℕ) → IsOf told log → take (length it.plane.bytes) (drop it.place told) ≡ it.passed → IsSo
+
 -- pieces of it came into memory: it is as long, with the same total, and read so; each of their blocks was scanned once, and each node
 -- above them joined once
 pub record LoadsPart (old new : PartState) : Type 0 where
@@ -60,9 +70,10 @@ pub record LoadsPart (old new : PartState) : Type 0 where
   pub more_joins : old.plane.joins ≤ new.plane.joins
   pub joins : (d : ℕ) → block_count old.plane.bytes ≤ 2 ^ d → new.plane.joins + away_pieces new.held * 2 ^ min d 4 ≤ old.plane.joins + away_pieces old.held * 2 ^ min d 4
 
--- a unit none of which is in memory can be had in part: each of its bytes has a place of 64 bits, and its last piece all of the fill
+-- a unit none of which is in memory can be had in part: it is what lies in its file, each of its bytes has a place of 64 bits, and its last piece all of the fill
 pub record CanBePart (plane : PlaneState) (it : Absence) : Type 0 where
   pub away : it.held ≡ []
+  pub origin : it.origin ≡ None
   pub within : it.place + length plane.bytes < 2 ^ 64
   pub some : 0 < length plane.bytes
   pub fill : 46080 * (pieces_in (length plane.bytes) - 1) ≤ plane.layout.used

@@ -320,8 +320,8 @@ fn copy_next<R: Source, W: Sink>(
     Ok(total)
 }
 
-// The total of the words of whole blocks, each of which is looked at.
-fn total_of(blocks: &[u8], looked: &mut Count) -> u64
+/// The total of the words of whole blocks, each of which is looked at.
+pub(crate) fn total_of(blocks: &[u8], looked: &mut Count) -> u64
     requires whole { length blocks.now % 2880 ≡ 0 }
     requires few { length blocks.now ≤ 2 ^ 34 }
     ensures value { result ≡ word_total blocks.now }

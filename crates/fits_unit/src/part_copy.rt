@@ -1,13 +1,12 @@
 //! A data unit of which some pieces are in memory, copied.
-ghost use Rattle.std.specs.Prelude.{◌≡◌, ◌≤◌, ◌<◌, ◌*◌, ◌+◌, ◌%◌, ◌^◌, Some, ℕ, List, drop, length, take, IfErr, OnOk};
-ghost use Rattle.fits_stream.specs.Agree.{IsOf};
+ghost use Rattle.std.specs.Prelude.{◌≡◌, ◌≤◌, ◌<◌, ◌*◌, ◌+◌, ◌%◌, ◌^◌, Some, length, IfErr, OnOk};
 ghost use Rattle.fits_stream.specs.Stream.{Prints};
 ghost use Rattle.fits_sum.specs.Words.{word_total};
 ghost use Rattle.fits_pieces.specs.Piece.{piece_of, piece_size};
 ghost use Rattle.fits_pieces.specs.Pieces.{away_blocks};
 ghost use Rattle.fits_unit.specs.Again.{CopiesUnit, CopyCounts, CopyFails, CopyWrites, Follows, Looks, PrintsAs};
 ghost use Rattle.fits_unit.specs.Absence.{part_at, part_of, IsPart};
-ghost use Rattle.fits_unit.specs.Part.{looked_blocks, CopiesPiece};
+ghost use Rattle.fits_unit.specs.Part.{looked_blocks, CopiesPiece, WherePassed};
 
 use crate::again::{CopyFault, copy_again};
 use fits_pieces::{PIECE_LEN, PiecedUnit};
@@ -25,18 +24,16 @@ pub(crate) fn copy_pieces<F: Stored, W: Sink>(
 ) -> Result<(), CopyFault>
     requires wide { 2880 ≤ length room.old }
     requires part { IsPart place unit.now }
-    ensures ok { (told : List ℕ) → IsOf told log.new
-        → take (length unit.now.plane.bytes) (drop place told) ≡ unit.now.passed
-        → OnOk result (Prints unit.now.plane.bytes (W.state sink.old) (W.state sink.new)) }
+    ensures ok { WherePassed log.new place unit.now (OnOk result (Prints unit.now.plane.bytes
+        (W.state sink.old) (W.state sink.new))) }
     ensures like { OnOk result (PrintsAs (λ bytes. word_total bytes
         ≡ word_total unit.now.plane.bytes) (length unit.now.plane.bytes)
         (W.state sink.old) (W.state sink.new)) }
     ensures copied { OnOk result (CopiesUnit unit.now.plane
         (Some (part_at (part_of place unit.now.plane.layout.blank unit.now)))
         log.old log.new (W.state sink.old) (W.state sink.new)) }
-    ensures err { (told : List ℕ) → IsOf told log.new
-        → take (length unit.now.plane.bytes) (drop place told) ≡ unit.now.passed
-        → IfErr result (CopyFails unit.now.plane.bytes (W.state sink.old) (W.state sink.new)) }
+    ensures err { WherePassed log.new place unit.now (IfErr result (CopyFails unit.now.plane.bytes
+        (W.state sink.old) (W.state sink.new))) }
     ensures writes { IfErr result (CopyWrites (W.state sink.old) (W.state sink.new)) }
     ensures follows { Follows log.old log.new }
     ensures size { length room.new ≡ length room.old }
@@ -64,16 +61,13 @@ fn copy_piece<F: Stored, W: Sink>(
     requires wide { 2880 ≤ length room.old }
     requires part { IsPart place unit.now }
     requires within { j < length unit.now.held }
-    ensures ok { (told : List ℕ) → IsOf told log.new
-        → take (length unit.now.plane.bytes) (drop place told) ≡ unit.now.passed
-        → OnOk result (Prints (piece_of unit.now.plane.bytes j)
-        (W.state sink.old) (W.state sink.new)) }
+    ensures ok { WherePassed log.new place unit.now (OnOk result
+        (Prints (piece_of unit.now.plane.bytes j) (W.state sink.old) (W.state sink.new))) }
     ensures copied { OnOk result (CopiesPiece place j unit.now log.old log.new
         (W.state sink.old) (W.state sink.new)) }
-    ensures err { (told : List ℕ) → IsOf told log.new
-        → take (length unit.now.plane.bytes) (drop place told) ≡ unit.now.passed
-        → IfErr result (CopyFails (piece_of unit.now.plane.bytes j)
-        (W.state sink.old) (W.state sink.new)) }
+    ensures err { WherePassed log.new place unit.now
+        (IfErr result (CopyFails (piece_of unit.now.plane.bytes j)
+        (W.state sink.old) (W.state sink.new))) }
     ensures writes { IfErr result (CopyWrites (W.state sink.old) (W.state sink.new)) }
     ensures follows { Follows log.old log.new }
     ensures size { length room.new ≡ length room.old }

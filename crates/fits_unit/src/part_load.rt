@@ -1,14 +1,13 @@
 //! A data unit of which some pieces are in memory, made of one that is away; and pieces that are loaded.
 ghost use Rattle.std.specs.Prelude.{◌≡◌, ◌≤◌, ◌<◌, ◌*◌, ◌+◌, ◌-◌, ◌^◌, ℕ, ℤ, List, Option, drop, length, min, take, false, true, slice_index_or, IfErr, IfOk, IsOk, OnOk};
-ghost use Rattle.fits_stream.specs.Agree.{IsOf, ReadsOn};
-ghost use Rattle.fits_sum.specs.Words.{word_total};
+ghost use Rattle.fits_stream.specs.Agree.{IsOf};
 ghost use Rattle.fits_pixels.specs.Layout.{block_count};
 ghost use Rattle.fits_plane.specs.Rectangle.{product, IsRectangle};
 ghost use Rattle.fits_pieces.specs.Piece.{pieces_in};
 ghost use Rattle.fits_pieces.specs.Pieces.{away_blocks, HoldsRectangle};
-ghost use Rattle.fits_unit.specs.Again.{Follows, LoadCounts};
+ghost use Rattle.fits_unit.specs.Again.{Follows, LoadCounts, IsUnchanged};
 ghost use Rattle.fits_unit.specs.Absence.{part_of, IsPart};
-ghost use Rattle.fits_unit.specs.Part.{away_pieces, LoadsPart};
+ghost use Rattle.fits_unit.specs.Part.{away_pieces, LoadsPart, WherePassed};
 ghost use Rattle.fits_unit.specs.Unread.{LaysOut};
 
 use crate::again::{LoadFault, pass_pieces};
@@ -51,7 +50,7 @@ pub(crate) fn part_of_file<F: Stored>(
     ensures quiet { OnOk result (log.new.failures ≡ log.old.failures) }
     ensures counted { IfErr result (LoadCounts log.old.failures log.new.failures) }
     ensures steady { (told : List ℕ) → IsOf told log.new → place + len ≤ length told
-        → IfErr result (λ why. why ≡ LoadFault.Changed → ⊥) }
+        → IsUnchanged result }
     ensures follows { Follows log.old log.new }
     ensures looked { log.new.looked ≡ log.old.looked }
     ensures room { length room.new ≡ length room.old }
@@ -86,18 +85,15 @@ pub(crate) fn load_pieces<F: Stored>(
         unit.new.plane.layout unit.new.held) }
     ensures loads { (blank : Option ℤ) → LoadsPart (part_of place blank unit.old)
         (part_of place blank unit.new) }
-    ensures same { (told : List ℕ) → IsOf told log.new
-        → take (length unit.old.plane.bytes) (drop place told) ≡ unit.old.passed
-        → unit.new.plane.bytes ≡ unit.old.plane.bytes }
+    ensures same { WherePassed log.new place unit.old (unit.new.plane.bytes
+        ≡ unit.old.plane.bytes) }
     ensures idle { HoldsRectangle axes.now lo.now hi.now unit.old.plane.layout unit.old.held
         → unit.new ≡ unit.old }
     ensures at_once { HoldsRectangle axes.now lo.now hi.now unit.old.plane.layout unit.old.held
         → IsOk result }
     ensures quiet { OnOk result (log.new.failures ≡ log.old.failures) }
     ensures counted { IfErr result (LoadCounts log.old.failures log.new.failures) }
-    ensures steady { (told : List ℕ) → IsOf told log.new
-        → take (length unit.old.plane.bytes) (drop place told) ≡ unit.old.passed
-        → IfErr result (λ why. why ≡ LoadFault.Changed → ⊥) }
+    ensures steady { WherePassed log.new place unit.old (IsUnchanged result) }
     ensures follows { Follows log.old log.new }
     ensures looked { log.new.looked ≡ log.old.looked }
     ensures room { length room.new ≡ length room.old }
@@ -130,16 +126,13 @@ fn load_piece<F: Stored>(
     ensures many { length unit.new.held ≡ length unit.old.held }
     ensures loads { (blank : Option ℤ) → LoadsPart (part_of place blank unit.old)
         (part_of place blank unit.new) }
-    ensures same { (told : List ℕ) → IsOf told log.new
-        → take (length unit.old.plane.bytes) (drop place told) ≡ unit.old.passed
-        → unit.new.plane.bytes ≡ unit.old.plane.bytes }
+    ensures same { WherePassed log.new place unit.old (unit.new.plane.bytes
+        ≡ unit.old.plane.bytes) }
     ensures idle { slice_index_or unit.old.held j false ≡ true → unit.new ≡ unit.old }
     ensures at_once { slice_index_or unit.old.held j false ≡ true → IsOk result }
     ensures quiet { OnOk result (log.new.failures ≡ log.old.failures) }
     ensures counted { IfErr result (LoadCounts log.old.failures log.new.failures) }
-    ensures steady { (told : List ℕ) → IsOf told log.new
-        → take (length unit.old.plane.bytes) (drop place told) ≡ unit.old.passed
-        → IfErr result (λ why. why ≡ LoadFault.Changed → ⊥) }
+    ensures steady { WherePassed log.new place unit.old (IsUnchanged result) }
     ensures follows { Follows log.old log.new }
     ensures looked { log.new.looked ≡ log.old.looked }
     ensures room { length room.new ≡ length room.old }

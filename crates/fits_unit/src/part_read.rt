@@ -1,10 +1,10 @@
 //! A data unit of which some pieces are in memory, read whole.
-ghost use Rattle.std.specs.Prelude.{◌≡◌, ◌≤◌, ◌<◌, ◌++◌, ◌+◌, ◌*◌, ◌^◌, ℕ, List, drop, length, take, IfErr, IfOk, OnOk};
-ghost use Rattle.fits_stream.specs.Agree.{IsOf, ReadsOn};
+ghost use Rattle.std.specs.Prelude.{◌≡◌, ◌<◌, ◌++◌, ◌+◌, ◌*◌, ◌^◌, length, IfErr, IfOk, OnOk};
+ghost use Rattle.fits_stream.specs.Agree.{ReadsOn};
 ghost use Rattle.fits_pieces.specs.Piece.{piece_of, piece_size};
-ghost use Rattle.fits_unit.specs.Again.{Follows, LoadCounts, ReadsRest};
+ghost use Rattle.fits_unit.specs.Again.{Follows, LoadCounts, ReadsRest, IsUnchanged};
 ghost use Rattle.fits_unit.specs.Absence.{IsPart};
-ghost use Rattle.fits_unit.specs.Part.{ReadsPiece};
+ghost use Rattle.fits_unit.specs.Part.{ReadsPiece, WherePassed};
 
 use crate::again::{LoadFault, read_again};
 use fits_pieces::{PIECE_LEN, PiecedUnit};
@@ -25,14 +25,11 @@ pub(crate) fn read_pieces<F: Stored>(
     ensures are { IfOk result (λ v. ReadsRest place unit.now.held unit.now.plane.bytes
         log.old log.new v.items) }
     ensures len { IfOk result (λ v. length v.items ≡ length unit.now.plane.bytes) }
-    ensures same { (told : List ℕ) → IsOf told log.new
-        → take (length unit.now.plane.bytes) (drop place told) ≡ unit.now.passed
-        → IfOk result (λ v. v.items ≡ unit.now.plane.bytes) }
+    ensures same { WherePassed log.new place unit.now (IfOk result (λ v. v.items
+        ≡ unit.now.plane.bytes)) }
     ensures quiet { OnOk result (log.new.failures ≡ log.old.failures) }
     ensures counted { IfErr result (LoadCounts log.old.failures log.new.failures) }
-    ensures steady { (told : List ℕ) → IsOf told log.new
-        → take (length unit.now.plane.bytes) (drop place told) ≡ unit.now.passed
-        → IfErr result (λ why. why ≡ LoadFault.Changed → ⊥) }
+    ensures steady { WherePassed log.new place unit.now (IsUnchanged result) }
     ensures follows { Follows log.old log.new }
     ensures looked { log.new.looked ≡ log.old.looked }
     ensures room { length room.new ≡ length room.old }
@@ -62,15 +59,11 @@ fn add_piece<F: Stored>(
     requires within { j < length unit.now.held }
     ensures are { OnOk result (ReadsPiece place j unit.now log.old log.new
         bytes.old.items bytes.new.items) }
-    ensures same { (told : List ℕ) → IsOf told log.new
-        → take (length unit.now.plane.bytes) (drop place told) ≡ unit.now.passed
-        → OnOk result (bytes.new.items ≡ bytes.old.items
-        ++ piece_of unit.now.plane.bytes j) }
+    ensures same { WherePassed log.new place unit.now (OnOk result (bytes.new.items
+        ≡ bytes.old.items ++ piece_of unit.now.plane.bytes j)) }
     ensures quiet { OnOk result (log.new.failures ≡ log.old.failures) }
     ensures counted { IfErr result (LoadCounts log.old.failures log.new.failures) }
-    ensures steady { (told : List ℕ) → IsOf told log.new
-        → take (length unit.now.plane.bytes) (drop place told) ≡ unit.now.passed
-        → IfErr result (λ why. why ≡ LoadFault.Changed → ⊥) }
+    ensures steady { WherePassed log.new place unit.now (IsUnchanged result) }
     ensures follows { Follows log.old log.new }
     ensures looked { log.new.looked ≡ log.old.looked }
     ensures room { length room.new ≡ length room.old }
@@ -105,14 +98,11 @@ pub(crate) fn read_piece<F: Stored>(
     ensures are { IfOk result (λ v. ReadsOn (place + 46080 * j) log.old log.new v.items) }
     ensures len { IfOk result (λ v. length v.items
         ≡ piece_size (length unit.now.plane.bytes) j) }
-    ensures same { (told : List ℕ) → IsOf told log.new
-        → take (length unit.now.plane.bytes) (drop place told) ≡ unit.now.passed
-        → IfOk result (λ v. v.items ≡ piece_of unit.now.passed j) }
+    ensures same { WherePassed log.new place unit.now (IfOk result (λ v. v.items
+        ≡ piece_of unit.now.passed j)) }
     ensures quiet { OnOk result (log.new.failures ≡ log.old.failures) }
     ensures counted { IfErr result (LoadCounts log.old.failures log.new.failures) }
-    ensures steady { (told : List ℕ) → IsOf told log.new
-        → take (length unit.now.plane.bytes) (drop place told) ≡ unit.now.passed
-        → IfErr result (λ why. why ≡ LoadFault.Changed → ⊥) }
+    ensures steady { WherePassed log.new place unit.now (IsUnchanged result) }
     ensures follows { Follows log.old log.new }
     ensures looked { log.new.looked ≡ log.old.looked }
     ensures room { length room.new ≡ length room.old }

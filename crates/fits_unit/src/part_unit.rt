@@ -1,5 +1,3 @@
-ghost use Rattle.std.specs.Prelude.{◌≡◌};
-
 use crate::again::{CopyFault, LoadFault};
 use crate::part_copy::copy_pieces;
 use crate::part_load::load_pieces;
@@ -36,21 +34,20 @@ impl Model for PartUnit {
 }
 
 impl PartUnit {
-    ghost use Rattle.std.specs.Prelude.{◌≡◌, ◌≤◌, ◌<◌, ◌*◌, ◌+◌, ◌^◌, ℕ, List, false, take, drop, is_some, length, nat_eq, slice_index_or, unsigned_abs, IfErr, IfNone, IfOk, IfSome, IsOk, OnErr, OnOk};
+    ghost use Rattle.std.specs.Prelude.{◌≡◌, ◌≤◌, ◌<◌, ◌+◌, ◌^◌, false, drop, is_some, length, nat_eq, slice_index_or, unsigned_abs, IfErr, IfNone, IfOk, IfSome, IsOk, OnErr, OnOk};
     ghost use Rattle.std.specs.List.{list_all};
-    ghost use Rattle.fits_stream.specs.Agree.{IsOf};
     ghost use Rattle.fits_stream.specs.Stream.{Prints};
     ghost use Rattle.fits_sum.specs.Words.{word_total};
-    ghost use Rattle.fits_pixels.specs.Layout.{IsLayout, block_count};
+    ghost use Rattle.fits_pixels.specs.Layout.{IsLayout};
     ghost use Rattle.fits_pixels.specs.Pixels.{pixels};
     ghost use Rattle.fits_pixels.specs.Statistics.{value_statistics};
     ghost use Rattle.fits_plane.specs.Painting.{Paints, Suits};
     ghost use Rattle.fits_plane.specs.Rectangle.{product, rectangle_size, rectangle_values, IsRectangle};
     ghost use Rattle.fits_pieces.specs.Piece.{piece_of, pieces_in};
     ghost use Rattle.fits_pieces.specs.Pieces.{away_blocks, HoldsRectangle};
-    ghost use Rattle.fits_unit.specs.Again.{CopiesUnit, CopyCounts, CopyFails, CopyWrites, Follows, LoadCounts, Looks, PrintsAs, ReadsRest};
+    ghost use Rattle.fits_unit.specs.Again.{CopiesUnit, CopyCounts, CopyFails, CopyWrites, Follows, LoadCounts, Looks, PrintsAs, ReadsRest, IsUnchanged};
     ghost use Rattle.fits_unit.specs.Absence.{blanked, part_at, part_of, IsPart};
-    ghost use Rattle.fits_unit.specs.Part.{LoadsPart};
+    ghost use Rattle.fits_unit.specs.Part.{LoadsPart, WherePartPassed};
 
     /// One whose last piece is in memory, and has all of the fill.
     pub(crate) fn of(place: u64, unit: PiecedUnit) -> PartUnit
@@ -216,18 +213,15 @@ impl PartUnit {
         ensures held { OnOk result (HoldsRectangle axes.now lo.now hi.now
             self.new.plane.layout self.new.held) }
         ensures loads { LoadsPart self.old self.new }
-        ensures same { (told : List ℕ) → IsOf told log.new
-            → take (length self.old.plane.bytes) (drop self.old.place told) ≡ self.old.passed
-            → self.new.plane.bytes ≡ self.old.plane.bytes }
+        ensures same { WherePartPassed log.new self.old (self.new.plane.bytes
+            ≡ self.old.plane.bytes) }
         ensures idle { HoldsRectangle axes.now lo.now hi.now self.old.plane.layout self.old.held
             → self.new ≡ self.old }
         ensures at_once { HoldsRectangle axes.now lo.now hi.now self.old.plane.layout self.old.held
             → IsOk result }
         ensures quiet { OnOk result (log.new.failures ≡ log.old.failures) }
         ensures counted { IfErr result (LoadCounts log.old.failures log.new.failures) }
-        ensures steady { (told : List ℕ) → IsOf told log.new
-            → take (length self.old.plane.bytes) (drop self.old.place told) ≡ self.old.passed
-            → IfErr result (λ why. why ≡ LoadFault.Changed → ⊥) }
+        ensures steady { WherePartPassed log.new self.old (IsUnchanged result) }
         ensures follows { Follows log.old log.new }
         ensures looked { log.new.looked ≡ log.old.looked }
         ensures room { length room.new ≡ length room.old }
@@ -257,14 +251,11 @@ impl PartUnit {
         ensures are { IfOk result (λ v. ReadsRest self.now.place self.now.held self.now.plane.bytes
             log.old log.new v.items) }
         ensures len { IfOk result (λ v. length v.items ≡ length self.now.plane.bytes) }
-        ensures same { (told : List ℕ) → IsOf told log.new
-            → take (length self.now.plane.bytes) (drop self.now.place told) ≡ self.now.passed
-            → IfOk result (λ v. v.items ≡ self.now.plane.bytes) }
+        ensures same { WherePartPassed log.new self.now (IfOk result (λ v. v.items
+            ≡ self.now.plane.bytes)) }
         ensures quiet { OnOk result (log.new.failures ≡ log.old.failures) }
         ensures counted { IfErr result (LoadCounts log.old.failures log.new.failures) }
-        ensures steady { (told : List ℕ) → IsOf told log.new
-            → take (length self.now.plane.bytes) (drop self.now.place told) ≡ self.now.passed
-            → IfErr result (λ why. why ≡ LoadFault.Changed → ⊥) }
+        ensures steady { WherePartPassed log.new self.now (IsUnchanged result) }
         ensures follows { Follows log.old log.new }
         ensures looked { log.new.looked ≡ log.old.looked }
         ensures room { length room.new ≡ length room.old }
@@ -282,18 +273,15 @@ impl PartUnit {
         sink: &mut W,
     ) -> Result<(), CopyFault>
         requires wide { 2880 ≤ length room.old }
-        ensures ok { (told : List ℕ) → IsOf told log.new
-            → take (length self.now.plane.bytes) (drop self.now.place told) ≡ self.now.passed
-            → OnOk result (Prints self.now.plane.bytes (W.state sink.old) (W.state sink.new)) }
+        ensures ok { WherePartPassed log.new self.now (OnOk result (Prints self.now.plane.bytes
+            (W.state sink.old) (W.state sink.new))) }
         ensures like { OnOk result (PrintsAs (λ bytes. word_total bytes
             ≡ word_total self.now.plane.bytes) (length self.now.plane.bytes)
             (W.state sink.old) (W.state sink.new)) }
         ensures copied { OnOk result (CopiesUnit self.now.plane (Some (part_at self.now))
             log.old log.new (W.state sink.old) (W.state sink.new)) }
-        ensures err { (told : List ℕ) → IsOf told log.new
-            → take (length self.now.plane.bytes) (drop self.now.place told) ≡ self.now.passed
-            → IfErr result (CopyFails self.now.plane.bytes
-            (W.state sink.old) (W.state sink.new)) }
+        ensures err { WherePartPassed log.new self.now
+            (IfErr result (CopyFails self.now.plane.bytes (W.state sink.old) (W.state sink.new))) }
         ensures writes { IfErr result (CopyWrites (W.state sink.old) (W.state sink.new)) }
         ensures follows { Follows log.old log.new }
         ensures size { length room.new ≡ length room.old }

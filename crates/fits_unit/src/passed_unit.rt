@@ -1,6 +1,7 @@
 ghost use Rattle.std.specs.Prelude.{◌≡◌};
 
 use fits_pixels::{Layout, PixelSummary, ValueSummary};
+use fits_plane::Conversion;
 use fits_stream::{Count, GoneBytes};
 use std::marker::Model;
 
@@ -43,6 +44,7 @@ impl PassedUnit {
     ghost use Rattle.fits_pixels.specs.Layout.{IsLayout, block_count};
     ghost use Rattle.fits_pixels.specs.Pixels.{pixels};
     ghost use Rattle.fits_pixels.specs.Statistics.{value_statistics};
+    ghost use Rattle.fits_plane.specs.Converting.{can_store_anew, IsConversion};
     ghost use Rattle.fits_unit.specs.Passing.{KnowsOf};
 
     /// A data unit all of whose blocks passed by.
@@ -132,11 +134,29 @@ impl PassedUnit {
         self.layout.blank = blank;
     }
 
+    /// Whether each of its pixels can be stored anew.
+    pub(crate) fn can_store(&self, conversion: Conversion) -> bool
+        requires conversion { IsConversion conversion }
+        requires from { conversion.from ≡ self.now.layout.width }
+        requires counted { self.now.layout.blank ≡ self.now.blank }
+        ensures { result ≡ can_store_anew conversion self.now.layout.pixels self.now.bytes }
+    {
+        conversion.can_store(self.stored, self.blank)
+    }
+
     /// How many of its blocks were scanned as they passed by.
     pub(crate) fn into_scans(self) -> Count
         ensures { result.total ≡ self.scans }
     {
         self.scans
+    }
+
+    /// The same, and the bytes that passed by.
+    pub(crate) fn into_parts(self) -> (Count, GoneBytes)
+        ensures scans { result.0.total ≡ self.scans }
+        ensures bytes { result.1.bytes ≡ self.bytes }
+    {
+        (self.scans, self.gone)
     }
 }
 

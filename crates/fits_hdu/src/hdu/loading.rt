@@ -1,22 +1,25 @@
 //! An HDU whose data unit lies in a file, and is read where it is wanted.
 use super::Hdu;
+use fits_image::Kind;
 use fits_passing::PassedHdu;
 use fits_plane::is_rectangle;
+use fits_rules::array_bits;
 use fits_stream::{ReadLog, Sink, Stored};
 use fits_unit::{CopyFault, DataUnit, LoadFault};
 use std::alloc::{AllocError, Global};
 
 impl Hdu {
-    ghost use Rattle.std.specs.Prelude.{◌≡◌, ◌≤◌, ◌+◌, ◌%◌, ◌<◌, ◌↔◌, ℕ, List, is_some, length, None, IfOk, IfErr, IfNone, IfSome, IsOk, IsSome, IsSomeAnd, IsTrue, OnOk, OnErr};
+    ghost use Rattle.std.specs.Prelude.{◌≡◌, ◌≤◌, ◌+◌, ◌<◌, ◌↔◌, false, is_some, length, None, IfOk, IfErr, IfNone, IfSome, IsOk, IsSome, IsSomeAnd, IsTrue, OnOk, OnErr};
     ghost use Rattle.fits_image.specs.Kind.{kind_in};
-    ghost use Rattle.fits_stream.specs.Agree.{IsOf};
     ghost use Rattle.fits_stream.specs.Stream.{Prints};
     ghost use Rattle.fits_pixels.specs.Layout.{block_count};
-    ghost use Rattle.fits_unit.specs.Again.{copied_blocks, CopyCounts, CopyFails, CopyWrites, Follows, LoadCounts, Looks, PrintsAs, ReadsRest};
-    ghost use Rattle.fits_unit.specs.DataUnit.{away_plane, holds_piece, is_passed, passed_blank, piece_of, pieces_in, place_of, IsCounted, LiesIn};
+    ghost use Rattle.fits_unit.specs.Again.{copied_blocks, CopyCounts, CopyFails, CopyWrites, Follows, LoadCounts, Looks, PrintsAs, ReadsUnit, InEachFile, IsUnchanged};
+    ghost use Rattle.fits_unit.specs.DataUnit.{away_plane, holds_piece, is_converted, is_passed, piece_of, pieces_in, place_of, IsCounted, LiesIn};
     ghost use Rattle.fits_passing.specs.Hdu.{hdu_bytes};
     ghost use Rattle.fits_passing.specs.Met.{IsMet};
-    ghost use Rattle.fits_hdu.specs.State.{hdu_at, parts_of, HasPixels, IsSeen, ReadsUpTo};
+    ghost use Rattle.fits_rules.specs.Image.{array_bits};
+    ghost use Rattle.fits_hdu.specs.Reshape.{HasArray};
+    ghost use Rattle.fits_hdu.specs.State.{hdu_at, parts_of, HasPixels, IsSeen, ReadsUpTo, unit_of};
     ghost use Rattle.fits_hdu.specs.Work.{HasHduTotal, IsOpenedAt, Loads, WritesHdu};
 
     /// The HDU whose data unit passed by or stays unread, and lies at this place of a file.
@@ -25,7 +28,8 @@ impl Hdu {
         ensures header { IfOk result (λ it. it.header.header ≡ passed.header.header) }
         ensures shape { IfOk result (λ it. it.header.shape ≡ passed.header.shape) }
         ensures unit { IfOk result (λ it. it.plane.bytes ≡ (away_plane passed.unit).bytes) }
-        ensures known { IfOk result (λ it. IfSome it.absent (λ at. at.known ≡ is_passed passed.unit)) }
+        ensures known { IfOk result (λ it. IfSome it.absent (λ at. at.known
+            ≡ is_passed passed.unit)) }
         ensures opened { IfOk result (IsOpenedAt place) }
     {
         let PassedHdu { header, unit } = passed;
@@ -45,6 +49,13 @@ impl Hdu {
         self.unit.is_held()
     }
 
+    /// Whether its data unit is converted as it is read.
+    pub fn is_converted(&self) -> bool
+        ensures { result ≡ is_converted self.now.absent }
+    {
+        self.unit.is_converted()
+    }
+
     /// Where its data unit lies in its file, if it isn't in memory.
     pub fn place(&self) -> Option<u64>
         ensures { result ≡ place_of self.now.absent }
@@ -59,13 +70,15 @@ impl Hdu {
         self.unit.piece_count()
     }
 
-    /// The bytes of a piece of its data unit, if it is in memory. One that isn't is as it passed by.
+    /// The bytes of a piece of its data unit, if it is in memory. One that isn't is as it passed by,
+    /// unless its data unit is converted as it is read.
     pub fn piece(&self, index: usize) -> Option<&[u8]>
         requires { index < pieces_in (length self.now.plane.bytes) }
         ensures value { IfSome result (λ b. b.now ≡ piece_of self.now.plane.bytes index) }
         ensures held { is_some result ≡ holds_piece self.now.absent index }
         ensures known { IfSome result (λ _. IsSeen self.now) }
-        ensures away { IfNone result (IsSomeAnd self.now.absent
+        ensures away { is_converted self.now.absent ≡ false
+            → IfNone result (IsSomeAnd self.now.absent
             (λ it. piece_of self.now.plane.bytes index ≡ piece_of it.passed index)) }
     {
         self.unit.piece(index)
@@ -86,22 +99,23 @@ impl Hdu {
         self.unit.is_counted()
     }
 
-    /// Has its data unit known, where it isn't: its bytes pass by, through a room of one block at least.
+    /// Has its data unit known, where it isn't: its bytes pass by, through a room of one piece at least.
     pub fn know<F: Stored>(
         &mut self,
         file: &F,
         log: &mut ReadLog,
         room: &mut [u8],
     ) -> Result<(), LoadFault>
-        requires { 2880 ≤ length room.old }
+        requires { 46080 ≤ length room.old }
         ensures known { OnOk result (IsSeen self.new) }
         ensures fresh { (IsSeen self.old → ⊥)
             → OnOk result (IsCounted self.new.plane self.new.absent) }
-        ensures same { (told : List ℕ) → IsOf told log.new → LiesIn told self.old.plane self.old.absent
-            → OnOk result (parts_of self.new ≡ parts_of (hdu_at told self.old)) }
-        ensures lies { (told : List ℕ) → IsOf told log.new → LiesIn told self.old.plane self.old.absent
-            → LiesIn told self.new.plane self.new.absent }
-        ensures place { IfSome self.old.absent (λ it. IfSome self.new.absent (λ at. at.place ≡ it.place)) }
+        ensures same { InEachFile log.new (unit_of self.old)
+            (λ told. OnOk result (parts_of self.new ≡ parts_of (hdu_at told self.old))) }
+        ensures lies { InEachFile log.new (unit_of self.old)
+            (λ told. LiesIn told self.new.plane self.new.absent) }
+        ensures place { IfSome self.old.absent (λ it. IfSome self.new.absent (λ at. at.place
+            ≡ it.place)) }
         ensures away { self.new.absent ≡ None → self.old.absent ≡ None }
         ensures loads { Loads 1 self.old self.new }
         ensures idle { IsSeen self.old → self.new ≡ self.old }
@@ -109,9 +123,7 @@ impl Hdu {
         ensures quiet { OnOk result (log.new.failures ≡ log.old.failures) }
         ensures err { OnErr result (self.new ≡ self.old) }
         ensures counted { IfErr result (LoadCounts log.old.failures log.new.failures) }
-        ensures steady { (told : List ℕ) → IsOf told log.new
-            → LiesIn told self.old.plane self.old.absent
-            → IfErr result (λ why. why ≡ LoadFault.Changed → ⊥) }
+        ensures steady { InEachFile log.new (unit_of self.old) (λ told. IsUnchanged result) }
         ensures follows { Follows log.old log.new }
         ensures size { length room.new ≡ length room.old }
     {
@@ -119,7 +131,8 @@ impl Hdu {
     }
 
     /// Has all of its data unit in memory: what isn't there is read from the file that it lies in,
-    /// through a room, and compared with what is known of it, by its length and its total.
+    /// through a room of one piece at least, and compared with what is known of it, by its length and its
+    /// total.
     pub fn load<F: Stored>(
         &mut self,
         alloc: Global,
@@ -127,12 +140,12 @@ impl Hdu {
         log: &mut ReadLog,
         room: &mut [u8],
     ) -> Result<(), LoadFault>
-        requires { 0 < length room.old }
+        requires { 46080 ≤ length room.old }
         ensures held { OnOk result (self.new.absent ≡ None) }
-        ensures loaded { OnOk result (IfSome self.old.absent (λ it. ReadsRest it.place it.held
-            self.old.plane.bytes log.old log.new self.new.plane.bytes)) }
-        ensures same { (told : List ℕ) → IsOf told log.new → LiesIn told self.old.plane self.old.absent
-            → OnOk result (parts_of self.new ≡ parts_of (hdu_at told self.old)) }
+        ensures loaded { OnOk result (IfSome self.old.absent (λ it. ReadsUnit it.origin
+            self.old.plane.bytes it log.old log.new self.new.plane.bytes)) }
+        ensures same { InEachFile log.new (unit_of self.old)
+            (λ told. OnOk result (parts_of self.new ≡ parts_of (hdu_at told self.old))) }
         ensures loads { Loads 1 self.old self.new }
         ensures scanned { OnOk result (IfSome self.old.absent (λ _. self.new.plane.scans
             ≡ self.old.plane.scans + block_count self.old.plane.bytes)) }
@@ -141,9 +154,7 @@ impl Hdu {
         ensures quiet { OnOk result (log.new.failures ≡ log.old.failures) }
         ensures err { OnErr result (self.new ≡ self.old) }
         ensures counted { IfErr result (LoadCounts log.old.failures log.new.failures) }
-        ensures steady { (told : List ℕ) → IsOf told log.new
-            → LiesIn told self.old.plane self.old.absent
-            → IfErr result (λ why. why ≡ LoadFault.Changed → ⊥) }
+        ensures steady { InEachFile log.new (unit_of self.old) (λ told. IsUnchanged result) }
         ensures follows { Follows log.old log.new }
         ensures size { length room.new ≡ length room.old }
     {
@@ -169,10 +180,10 @@ impl Hdu {
         ensures held { OnOk result (HasPixels lo.now hi.now self.new) }
         ensures image { OnErr result (IsSome
             (kind_in self.old.header.shape self.old.header.header.cards)) }
-        ensures same { (told : List ℕ) → IsOf told log.new → LiesIn told self.old.plane self.old.absent
-            → parts_of (hdu_at told self.new) ≡ parts_of (hdu_at told self.old) }
-        ensures lies { (told : List ℕ) → IsOf told log.new → LiesIn told self.old.plane self.old.absent
-            → LiesIn told self.new.plane self.new.absent }
+        ensures same { InEachFile log.new (unit_of self.old)
+            (λ told. parts_of (hdu_at told self.new) ≡ parts_of (hdu_at told self.old)) }
+        ensures lies { InEachFile log.new (unit_of self.old)
+            (λ told. LiesIn told self.new.plane self.new.absent) }
         ensures known { IsSeen self.old → IsSeen self.new }
         ensures whole { self.old.absent ≡ None → self.new.absent ≡ None }
         ensures loads { Loads 2 self.old self.new }
@@ -180,9 +191,7 @@ impl Hdu {
         ensures at_once { HasPixels lo.now hi.now self.old → IsOk result }
         ensures quiet { OnOk result (log.new.failures ≡ log.old.failures) }
         ensures counted { IfErr result (LoadCounts log.old.failures log.new.failures) }
-        ensures steady { (told : List ℕ) → IsOf told log.new
-            → LiesIn told self.old.plane self.old.absent
-            → IfErr result (λ why. why ≡ LoadFault.Changed → ⊥) }
+        ensures steady { InEachFile log.new (unit_of self.old) (λ told. IsUnchanged result) }
         ensures follows { Follows log.old log.new }
         ensures size { length room.new ≡ length room.old }
     {
@@ -196,8 +205,82 @@ impl Hdu {
         self.unit.know(file, log, room)
     }
 
+    /// Has its pixels in memory, where it is an array of integers, or has its data unit known, where by
+    /// its statistics they can be converted to such a kind as they are read.
+    ///
+    /// Where a call fails, what came to be known before stays.
+    #[tactic(auto, using(crate::proofs::PixelLemmas::pixel_steps))]
+    pub fn load_array<F: Stored>(
+        &mut self,
+        alloc: Global,
+        file: &F,
+        log: &mut ReadLog,
+        room: &mut [u8],
+        kind: Kind,
+    ) -> Result<(), LoadFault>
+        requires { 46080 ≤ length room.old }
+        ensures held { OnOk result (HasArray kind self.new) }
+        ensures array { OnErr result (IsSome (array_bits self.old.header.shape)) }
+        ensures same { InEachFile log.new (unit_of self.old)
+            (λ told. parts_of (hdu_at told self.new) ≡ parts_of (hdu_at told self.old)) }
+        ensures lies { InEachFile log.new (unit_of self.old)
+            (λ told. LiesIn told self.new.plane self.new.absent) }
+        ensures known { IsSeen self.old → IsSeen self.new }
+        ensures whole { self.old.absent ≡ None → self.new.absent ≡ None }
+        ensures loads { Loads 2 self.old self.new }
+        ensures idle { HasArray kind self.old → self.new ≡ self.old }
+        ensures at_once { HasArray kind self.old → IsOk result }
+        ensures quiet { OnOk result (log.new.failures ≡ log.old.failures) }
+        ensures counted { IfErr result (LoadCounts log.old.failures log.new.failures) }
+        ensures steady { InEachFile log.new (unit_of self.old) (λ told. IsUnchanged result) }
+        ensures follows { Follows log.old log.new }
+        ensures size { length room.new ≡ length room.old }
+    {
+        let Some(_bits) = array_bits(self.shape()) else {
+            return Ok(());
+        };
+        self.know_large(file, log, room)?;
+        if self.stays_away(kind) {
+            return Ok(());
+        }
+        self.load(alloc, file, log, room)
+    }
+
+    // Has its data unit known, where it may be converted as it is read.
+    fn know_large<F: Stored>(
+        &mut self,
+        file: &F,
+        log: &mut ReadLog,
+        room: &mut [u8],
+    ) -> Result<(), LoadFault>
+        requires { 46080 ≤ length room.old }
+        ensures same { InEachFile log.new (unit_of self.old)
+            (λ told. parts_of (hdu_at told self.new) ≡ parts_of (hdu_at told self.old)) }
+        ensures lies { InEachFile log.new (unit_of self.old)
+            (λ told. LiesIn told self.new.plane self.new.absent) }
+        ensures loads { Loads 1 self.old self.new }
+        ensures known { IsSeen self.old → IsSeen self.new }
+        ensures idle { IsSeen self.old → self.new ≡ self.old }
+        ensures at_once { IsSeen self.old → IsOk result }
+        ensures quiet { OnOk result (log.new.failures ≡ log.old.failures) }
+        ensures counted { IfErr result (LoadCounts log.old.failures log.new.failures) }
+        ensures steady { InEachFile log.new (unit_of self.old) (λ told. IsUnchanged result) }
+        ensures follows { Follows log.old log.new }
+        ensures size { length room.new ≡ length room.old }
+    {
+        if self.may_stay_away() {
+            return self.know(file, log, room);
+        }
+        Ok(())
+    }
+
+    // Whether it may be, but for the numbers of its pixels.
+    fn may_stay_away(&self) -> bool {
+        self.kind.is_some() && !self.kept && self.unit.is_large()
+    }
+
     /// Writes the header and then the data unit: what is in memory of it, and the rest as the file has
-    /// it at its place, through a room of one block at least. What is copied is compared with what is
+    /// it at its place, through a room of one piece at least. What is copied is compared with what is
     /// known of it, by its length and its total. Each card's read is counted.
     ///
     /// Where a call fails a prefix was written.
@@ -208,19 +291,17 @@ impl Hdu {
         room: &mut [u8],
         sink: &mut W,
     ) -> Result<(), CopyFault>
-        requires { 2880 ≤ length room.old }
-        ensures ok { (told : List ℕ) → IsOf told log.new
-            → LiesIn told self.old.plane self.old.absent
-            → OnOk result (Prints (hdu_bytes (parts_of (hdu_at told self.old)))
-            (W.state sink.old) (W.state sink.new)) }
+        requires { 46080 ≤ length room.old }
+        ensures ok { InEachFile log.new (unit_of self.old) (λ told. OnOk result
+            (Prints (hdu_bytes (parts_of (hdu_at told self.old)))
+            (W.state sink.old) (W.state sink.new))) }
         ensures like { OnOk result (PrintsAs (HasHduTotal self.old)
             (length (hdu_bytes (parts_of self.old))) (W.state sink.old) (W.state sink.new)) }
         ensures copied { OnOk result (WritesHdu self.old log.old log.new
             (W.state sink.old) (W.state sink.new)) }
-        ensures err { (told : List ℕ) → IsOf told log.new
-            → LiesIn told self.old.plane self.old.absent
-            → IfErr result (CopyFails (hdu_bytes (parts_of (hdu_at told self.old)))
-            (W.state sink.old) (W.state sink.new)) }
+        ensures err { InEachFile log.new (unit_of self.old)
+            (λ told. IfErr result (CopyFails (hdu_bytes (parts_of (hdu_at told self.old)))
+            (W.state sink.old) (W.state sink.new))) }
         ensures writes { IfErr result (CopyWrites (W.state sink.old) (W.state sink.new)) }
         ensures follows { Follows log.old log.new }
         ensures size { length room.new ≡ length room.old }

@@ -9,6 +9,7 @@ use super::finding::index_of;
 use super::reading::read_away;
 use crate::holder::{Holder, InFile};
 use fits_edit::{Edit, HduEdit};
+use fits_image::Kind;
 use fits_passing::{Look, ReadFileFault};
 use fits_rules::array_bits;
 use fits_stream::{ReadLog, Stored, StoredSource};
@@ -63,8 +64,9 @@ impl<H: Holder + Drop> Session<H> {
     ghost use Rattle.fits_session.specs.Away.{EditWantsData, IsTold, LieStill, LoadsAll, LoadsAt, LoadsFor, LoadWork};
     ghost use Rattle.fits_session.specs.Edit.{hdu_of};
     ghost use Rattle.fits_session.specs.Query.{array_in, kind_in};
-    ghost use Rattle.fits_session.specs.Session.{file_of, marked_of, reads_of, session_at, works_of, HasImage, HasPixels, HasStats, IsHeld, IsReadyFor, IsSeen, IsSoOf, NeedsData, WorksOnly};
-    ghost use Rattle.fits_making.specs.Making.{HasArray};
+    ghost use Rattle.fits_session.specs.Session.{file_of, marked_of, reads_of, session_at, works_of, HasImage, HasPixels, HasStats, IsHeld, IsReadyFor, IsSeen, IsSoOf, KeepsSeenIn, NeedsData, WorksOnly};
+    ghost use Rattle.fits_hdu.specs.Reshape.{HasArray};
+    ghost use Rattle.fits_making.specs.Making.{HoldsArray};
 
     /// Has the data unit of HDU h known, if there is one: where it is unread its bytes pass by, as it
     /// lies in its file. Reads that fail are counted.
@@ -185,15 +187,56 @@ impl<H: Holder + Drop> Session<H> {
             .load_rect(self.alloc, &mut self.hdus[i], lo, hi, log)
     }
 
+    // Has the pixels of HDU h in memory, if it is there and an array of integers; or has them known, where
+    // not all is to stay known and they can be converted to such a kind as they are read.
+    //
+    // Where a call fails, what was read before may stay.
+    fn load_array(
+        &mut self,
+        h: usize,
+        kind: Kind,
+        look: Look,
+        log: &mut ReadLog,
+    ) -> Result<(), LoadFault>
+        ensures held { OnOk result (IsSoOf (HasArray kind) h self.new.hdus) }
+        ensures keeps { look ≡ Look.All → OnOk result (IsSoOf HoldsArray h self.new.hdus) }
+        ensures wanted { OnErr result (IsOk (array_in (file_of self.old) h)) }
+        ensures same { (told : List ℕ) → IsTold H.whole told log.new self.old.hdus
+            → marked_of (session_at told self.new) ≡ marked_of (session_at told self.old) }
+        ensures alone { LoadsAt 2 h self.old self.new }
+        ensures idle { IsSoOf (HasArray kind) h self.old.hdus
+            → (look ≡ Look.All → IsSoOf HoldsArray h self.old.hdus) → self.new ≡ self.old }
+        ensures at_once { IsSoOf (HasArray kind) h self.old.hdus
+            → (look ≡ Look.All → IsSoOf HoldsArray h self.old.hdus) → IsOk result }
+        ensures quiet { OnOk result (log.new.failures ≡ log.old.failures) }
+        ensures counted { IfErr result (LoadCounts log.old.failures log.new.failures) }
+        ensures unchanged { (told : List ℕ) → IsTold H.whole told log.new self.old.hdus
+            → IfErr result (λ why. why ≡ LoadFault.Changed → ⊥) }
+        ensures follows { Follows log.old log.new }
+        ensures told { (told : List ℕ) → IsTold H.whole told log.new self.old.hdus
+            → IsTold H.whole told log.new self.new.hdus }
+        ensures seen { All IsSeen self.old.hdus → All IsSeen self.new.hdus }
+        ensures whole { H.whole ≡ true → IsOk result }
+    {
+        if let Look::All = look {
+            return self.hold_array(h, log);
+        }
+        let Ok(i) = index_of(&self.hdus, h) else {
+            return Ok(());
+        };
+        self.holder
+            .load_array(self.alloc, &mut self.hdus[i], kind, log)
+    }
+
     // Has the pixels of HDU h in memory, if it is there and an array of integers.
-    fn load_array(&mut self, h: usize, log: &mut ReadLog) -> Result<(), LoadFault>
-        ensures held { OnOk result (IsSoOf HasArray h self.new.hdus) }
+    fn hold_array(&mut self, h: usize, log: &mut ReadLog) -> Result<(), LoadFault>
+        ensures held { OnOk result (IsSoOf HoldsArray h self.new.hdus) }
         ensures wanted { OnErr result (IsOk (array_in (file_of self.old) h)) }
         ensures same { (told : List ℕ) → IsTold H.whole told log.new self.old.hdus
             → OnOk result (marked_of (session_at told self.new) ≡ marked_of (session_at told self.old)) }
-        ensures alone { LoadsAt 1 h self.old self.new }
-        ensures idle { IsSoOf HasArray h self.old.hdus → self.new ≡ self.old }
-        ensures at_once { IsSoOf HasArray h self.old.hdus → IsOk result }
+        ensures alone { LoadsAt 2 h self.old self.new }
+        ensures idle { IsSoOf HoldsArray h self.old.hdus → self.new ≡ self.old }
+        ensures at_once { IsSoOf HoldsArray h self.old.hdus → IsOk result }
         ensures quiet { OnOk result (log.new.failures ≡ log.old.failures) }
         ensures err { OnErr result (self.new ≡ self.old) }
         ensures counted { IfErr result (LoadCounts log.old.failures log.new.failures) }
@@ -211,16 +254,21 @@ impl<H: Holder + Drop> Session<H> {
         Ok(())
     }
 
-    /// Has the data that an edit wants in memory, as `load_pixels` or `load`, or known, as `know`.
-    pub fn load_for(&mut self, edit: &Edit, log: &mut ReadLog) -> Result<(), LoadFault>
+    /// Has the data that an edit wants in memory, as `load_pixels` or `load`, or known, as `know`. Where
+    /// all is to stay known, an array that is to be made another is in memory then; else its pixels may
+    /// stay in the file, to be converted as they are read.
+    pub fn load_for(&mut self, edit: &Edit, look: Look, log: &mut ReadLog) -> Result<(), LoadFault>
         ensures ready { OnOk result (IsReadyFor edit.now self.new.hdus) }
+        ensures keeps { look ≡ Look.All → OnOk result (KeepsSeenIn edit.now self.new.hdus) }
         ensures needed { OnErr result (NeedsData edit.now) }
         ensures wanted { OnErr result (EditWantsData (file_of self.old) edit.now) }
         ensures same { (told : List ℕ) → IsTold H.whole told log.new self.old.hdus
             → marked_of (session_at told self.new) ≡ marked_of (session_at told self.old) }
         ensures alone { LoadsFor edit.now self.old self.new }
-        ensures idle { IsReadyFor edit.now self.old.hdus → self.new ≡ self.old }
-        ensures at_once { IsReadyFor edit.now self.old.hdus → IsOk result }
+        ensures idle { IsReadyFor edit.now self.old.hdus
+            → (look ≡ Look.All → KeepsSeenIn edit.now self.old.hdus) → self.new ≡ self.old }
+        ensures at_once { IsReadyFor edit.now self.old.hdus
+            → (look ≡ Look.All → KeepsSeenIn edit.now self.old.hdus) → IsOk result }
         ensures quiet { OnOk result (log.new.failures ≡ log.old.failures) }
         ensures counted { IfErr result (LoadCounts log.old.failures log.new.failures) }
         ensures unchanged { (told : List ℕ) → IsTold H.whole told log.new self.old.hdus
@@ -238,8 +286,8 @@ impl<H: Holder + Drop> Session<H> {
             } => self.load_pixels(*hdu, lo.as_slice(), hi.as_slice(), log),
             Edit::Hdu {
                 hdu,
-                edit: HduEdit::Reshape { .. },
-            } => self.load_array(*hdu, log),
+                edit: HduEdit::Reshape { kind, .. },
+            } => self.load_array(*hdu, *kind, look, log),
             Edit::Hdu {
                 hdu,
                 edit: HduEdit::Stamp | HduEdit::Keep,
@@ -307,9 +355,9 @@ impl<H: Holder + Drop> Session<H> {
     // Whether HDU h is there and an array of integers.
     fn is_array(&self, h: usize) -> bool
         ensures is { result ≡ true → IsOk (array_in (file_of self.now) h) }
-        ensures held { result ≡ true → IsSoOf HasArray h self.now.hdus
+        ensures held { result ≡ true → IsSoOf HoldsArray h self.now.hdus
             → IsSoOf IsHeld h self.now.hdus }
-        ensures none { result ≡ false → IsSoOf HasArray h self.now.hdus }
+        ensures none { result ≡ false → IsSoOf HoldsArray h self.now.hdus }
     {
         match index_of(&self.hdus, h) {
             Ok(i) => array_bits(self.hdus[i].shape()).is_some(),

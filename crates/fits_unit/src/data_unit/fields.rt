@@ -5,6 +5,7 @@ use super::DataUnit;
 use crate::absent::Absent;
 use crate::away_at::AwayAt;
 use crate::away_unit::AwayUnit;
+use crate::converted_unit::ConvertedUnit;
 use crate::part_unit::PartUnit;
 use crate::passed_unit::PassedUnit;
 use crate::unread_unit::UnreadUnit;
@@ -28,6 +29,9 @@ fn apart(unit: DataUnit, away: Absent) {
                     let _unit: UnreadUnit = unit;
                 }
             }
+        }
+        Absent::Converted(unit) => {
+            let _unit: ConvertedUnit = unit;
         }
         Absent::InPart(part) => {
             let _part: PartUnit = part;

@@ -22,11 +22,11 @@ returns-clause-err g c =
 pub returns-clause-kept : goal.returns-clause-kept
 returns-clause-kept g c = on_err_weaker c.obey.result (λ same. same ∙ c.test_columns.ensures.same) c.obey.ensures.kept
 
-pub returns-clause-stays : goal.returns-clause-stays
-returns-clause-stays g c = record {
-  lie = λ bytes lie. c.obey.ensures.stays.lie bytes (c.test_columns.ensures.stays.lie bytes lie);
-  seen = λ seen. c.obey.ensures.stays.seen (c.test_columns.ensures.stays.seen seen);
-}
+pub returns-clause-lies : goal.returns-clause-lies
+returns-clause-lies g c = λ told lie. c.obey.ensures.lies told (c.test_columns.ensures.stays.lie told lie)
+
+pub returns-clause-seen : goal.returns-clause-seen
+returns-clause-seen g c = λ keeps seen. c.obey.ensures.seen (c.test_columns.ensures.keeps keeps) (c.test_columns.ensures.stays.seen seen)
 
 -- its columns were looked at, and then it was done, over each file alike
 pub returns-clause-over : goal.returns-clause-over
@@ -40,7 +40,7 @@ returns-clause-over g c = λ told lie.
     let free = free_done c.args.tables (marked_of mid) (marked_of c.obey.new.session) c.args.command text.items kept done in
     subst (λ (it : Marked). outcome_of (guarded c.args.tables it) c.args.command ≡ Ok (record { text = text.items; left = guarded c.args.tables (marked_of (session_at told c.obey.new.session)) })) same
     (done_over c.args.tables told mid c.is_sound-2.ensures.whole c.is_sound-2.ensures.described own c.obey.new.session c.args.command text.items (c.test_columns.ensures.ready c.requires) free away))
-    c.obey.ensures.ok c.obey.ensures.absences
+    c.obey.ensures.ok c.obey.ensures.unread
 
 pub returns-clause-fails : goal.returns-clause-fails
 returns-clause-fails g c = λ told lie.

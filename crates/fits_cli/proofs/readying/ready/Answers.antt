@@ -32,8 +32,8 @@ corners_are lo lo' hi hi' h hdus first last has = subst (λ c. IsSoOf (HasPixels
 
 pub returns-in-Rectangle-clause-idle : goal.returns-in-Rectangle-clause-idle
 unfolding IsReady
-returns-in-Rectangle-clause-idle g c = λ ready. c.load_pixels.ensures.idle (corners_are _ _ _ _ _ _ c.as_slice.ensures c.as_slice-in-Rectangle.ensures (rw c.in-Rectangle.is at ready))
+returns-in-Rectangle-clause-idle g c = λ ready keeps. c.load_pixels.ensures.idle (corners_are _ _ _ _ _ _ c.as_slice.ensures c.as_slice-in-Rectangle.ensures (rw c.in-Rectangle.is at ready))
 
 pub returns-in-Rectangle-clause-at_once : goal.returns-in-Rectangle-clause-at_once
 unfolding IsReady
-returns-in-Rectangle-clause-at_once g c = λ ready. c.load_pixels.ensures.at_once (corners_are _ _ _ _ _ _ c.as_slice.ensures c.as_slice-in-Rectangle.ensures (rw c.in-Rectangle.is at ready))
+returns-in-Rectangle-clause-at_once g c = λ ready keeps. c.load_pixels.ensures.at_once (corners_are _ _ _ _ _ _ c.as_slice.ensures c.as_slice-in-Rectangle.ensures (rw c.in-Rectangle.is at ready))

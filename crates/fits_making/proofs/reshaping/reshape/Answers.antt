@@ -13,6 +13,7 @@ use Rattle.fits_hdu.proofs.ReshapeLemmas.{reshaped_is_hdu}
 use Rattle.fits_making.specs.Keeping.{spare_cards}
 use Rattle.fits_making.specs.Making.{IsFinished}
 use Rattle.fits_passing.specs.declared.limits.TheConstants.{FILE_LIMIT}
+use Rattle.fits_making.proofs.HadLemmas.{had_reshaped, seen_held}
 use Rattle.fits_making.proofs.KeepingLemmas.{hdu_long, no_longer}
 use Rattle.fits_making.proofs.MakingLemmas.{within_limits}
 use Rattle.fits_making.proofs.ReshapeEditLemmas.{array_memory, no_array, read_none, reshapes, reshapes_not}
@@ -46,11 +47,10 @@ returns-in_err-reshape c =
     let p = err_from_is_err_and c.from_residual-in_err-reshape.result c.from_residual-in_err-reshape.ensures.1 in
     let hdu = c.args.hdu.now in
     let e = c.in_err-reshape.ensures in
-    let held : hdu.absent ≡ None = c.requires.held c.in-Some._bits (sym (c.array_bits.ensures ∙ ap array_bits c.shape.ensures.value) ∙ c.in-Some.is) in
     let few = within_limits c.args.len c.args.hdus c.requires.within in
     let most : FILE_LIMIT - (c.args.len - c.hdu_len.result) + (c.args.len - length (hdu_bytes (parts_of hdu))) ≡ FILE_LIMIT = omega (arith, c.hdu_len.ensures, few.0) in
     rw (p.1, p.2) (reshapes_not c.args.kind c.args.axes.now c.args.len c.args.hdus (FILE_LIMIT - (c.args.len - c.hdu_len.result)) c.spare_cards-spare.result hdu c.reshape.new.self c.in_err-reshape.field-0.0 c.card_count-whole.ensures.whole e.described c.spare_cards-spare.ensures c.requires.part most
-    (rw c.as_slice.ensures at e.err) e.same e.least (rw c.as_slice.ensures at e.work) (rw c.as_slice.ensures at e.idle) e.room (record { described = e.left; entry = e.entry; kept = e.kept; absent = e.held ∙ sym held }))
+    (rw c.as_slice.ensures at e.err) e.same e.least (rw c.as_slice.ensures at e.work) (rw c.as_slice.ensures at e.idle) e.room (record { described = e.left; entry = e.entry; kept = e.kept; absent = e.absent }))
 
 -- it is small enough to be stamped
 pub finish-requires-clause-small : goal.finish-requires-clause-small
@@ -61,9 +61,9 @@ finish-requires-clause-small c =
     let left = (reshaped_is_hdu (is_primary hdu.header.shape.class) c.args.kind c.args.axes.now hdu.header.shape (parts_of hdu) mid c.card_count-whole.ensures.whole e.described (rw c.as_slice.ensures at e.ok)).0 in
     omega (arith, hdu_long mid left.header, e.within, no_longer (length mid.header.cards) (length mid.header.cards + c.spare_cards-spare.result) (omega arith))
 
--- its data are in memory
+-- where it is kept its data are in memory
 pub finish-requires-clause-known : goal.finish-requires-clause-known
-finish-requires-clause-known c = λ on. rw c.in_ok-reshape.ensures.held tt
+finish-requires-clause-known c = λ on. seen_held c.args.kind c.args.hdu.now c.reshape.new.self (c.requires.held c.in-Some._bits (sym (c.array_bits.ensures ∙ ap array_bits c.shape.ensures.value) ∙ c.in-Some.is)) c.in_ok-reshape.ensures.held (sym c.in_ok-cards.ensures.ok ∙ on)
 
 pub returns : goal.returns
 returns c =
@@ -73,7 +73,8 @@ returns c =
     let most : FILE_LIMIT - (c.args.len - c.hdu_len.result) + (c.args.len - length (hdu_bytes (parts_of hdu))) ≡ FILE_LIMIT = omega (arith, c.hdu_len.ensures, few.0) in
     let stamps : is_some c.in_ok-cards.cards ≡ hdu.kept = c.in_ok-cards.ensures.ok in
     reshapes c.args.kind c.args.axes.now c.args.len c.args.hdus (FILE_LIMIT - (c.args.len - c.hdu_len.result)) c.spare_cards-spare.result hdu c.reshape.new.self c.finish.new.hdu tt c.card_count-whole.ensures.whole e.described c.spare_cards-spare.ensures c.requires.part c.requires.within most
-    (rw c.as_slice.ensures at e.ok) e.within e.least (rw c.as_slice.ensures at e.work) (rw c.as_slice.ensures at e.pixel_work) e.entry e.kept e.held (e.held ∙ sym (c.requires.held c.in-Some._bits (sym (c.array_bits.ensures ∙ ap array_bits c.shape.ensures.value) ∙ c.in-Some.is))) (subst (λ b. IsFinished b c.reshape.new.self c.finish.new.hdu) stamps c.finish.ensures)
+    (rw c.as_slice.ensures at e.ok) e.within e.least (rw c.as_slice.ensures at e.work) (rw c.as_slice.ensures at e.pixel_work) e.entry e.kept
+    (had_reshaped c.args.kind hdu c.reshape.new.self (c.requires.held c.in-Some._bits (sym (c.array_bits.ensures ∙ ap array_bits c.shape.ensures.value) ∙ c.in-Some.is)) e.held e.lies e.kept) e.unread (λ holds. let held = holds c.in-Some._bits (sym (c.array_bits.ensures ∙ ap array_bits c.shape.ensures.value) ∙ c.in-Some.is) in e.held held ∙ sym held) (subst (λ b. IsFinished b c.reshape.new.self c.finish.new.hdu) stamps c.finish.ensures)
 
-pub reshape-requires-clause-held : goal.reshape-requires-clause-held
-reshape-requires-clause-held c = c.requires.held c.in-Some._bits (sym (c.array_bits.ensures ∙ ap array_bits c.shape.ensures.value) ∙ c.in-Some.is)
+pub reshape-requires-clause-had : goal.reshape-requires-clause-had
+reshape-requires-clause-had c = c.requires.held c.in-Some._bits (sym (c.array_bits.ensures ∙ ap array_bits c.shape.ensures.value) ∙ c.in-Some.is)

@@ -33,7 +33,7 @@ returns-clause-means c =
     let few = whole_blocks c.args.count per some in
     let same : c.args.count / per * block_pixels c.args.layout.width ≡ c.args.count / per * per = ap (λ n. c.args.count / per * n) (sym c.pixels_per_block-per.ensures) in
     let found = rw (to_z-of_z w128 c.args.shift c.ranges.shift) at c.blocks_convert.ensures in
-    let bytes = ap (λ (s : DataState). s.bytes) c.convert_all.ensures.work in
+    let bytes = ap (λ (s : DataState). s.bytes) c.convert.ensures.work in
     let left = rw (to_z-of_z w128 c.args.shift c.ranges.shift, bytes) at c.convert_each.ensures.means in
     parts_decide (λ x. IsStorable c.args.width (pixel c.args.layout.width c.args.store.now.bytes x +ℤ c.args.shift)) c.args.count (c.args.count / per * per) (c.args.count - c.args.count / per * per) _
     (omega (arith, few)) (λ x b. found.0 c.if-not-blocks_convert.false x (omega (arith, b, same))) left
@@ -45,11 +45,11 @@ returns-clause-inside c = λ t x b.
     let full : ℕ = c.args.count / per * per in
     let some : 0 < per = subst (λ n. 0 < n) (sym c.pixels_per_block-per.ensures) (block_pixels_some c.args.layout.width c.requires.from) in
     let few = whole_blocks c.args.count per some in
-    let bytes = ap (λ (s : DataState). s.bytes) c.convert_all.ensures.work in
-    let first = rw (to_z-of_z w128 c.args.shift c.ranges.shift) at c.convert_all.ensures.inside in
+    let bytes = ap (λ (s : DataState). s.bytes) c.convert.ensures.work in
+    let first = rw (to_z-of_z w128 c.args.shift c.ranges.shift) at c.convert.ensures.inside in
     let left = rw (to_z-of_z w128 c.args.shift c.ranges.shift, bytes) at c.convert_each.ensures.inside in
     let whole : pixel c.args.width c.convert_each.new.pixels.bytes.now x ≡ pixel c.args.layout.width c.args.store.now.bytes x +ℤ c.args.shift
-    = parts_inside c.args.width c.args.count full (c.args.count - full) (λ y. pixel c.args.layout.width c.args.store.now.bytes y +ℤ c.args.shift) c.convert_all.new.target c.convert_each.new.pixels.bytes.now (omega (arith, few)) first (left t) (λ j away. c.convert_each.ensures.outside j away ∙ ap (λ xs. slice_index xs j) c.new-pixels.ensures.value) x b in
+    = parts_inside c.args.width c.args.count full (c.args.count - full) (λ y. pixel c.args.layout.width c.args.store.now.bytes y +ℤ c.args.shift) c.convert.new.target c.convert_each.new.pixels.bytes.now (omega (arith, few)) first (left t) (λ j away. c.convert_each.ensures.outside j away ∙ ap (λ xs. slice_index xs j) c.new-pixels.ensures.value) x b in
     search rules
 
 -- the bytes behind them stay
@@ -62,5 +62,5 @@ returns-clause-outside c = λ j behind.
     let whole : full + (c.args.count - full) ≡ c.args.count = omega (arith, few) in
     let less = mul-le-mul_right c.args.width few in
     let second = c.convert_each.ensures.outside j (inr (subst (λ n. n * c.args.width ≤ j) (sym whole) behind)) in
-    let kept : slice_index c.convert_each.new.pixels.bytes.now j ≡ slice_index c.args.target.now j = second ∙ ap (λ xs. slice_index xs j) c.new-pixels.ensures.value ∙ c.convert_all.ensures.outside j (omega (arith, less, behind)) in
+    let kept : slice_index c.convert_each.new.pixels.bytes.now j ≡ slice_index c.args.target.now j = second ∙ ap (λ xs. slice_index xs j) c.new-pixels.ensures.value ∙ c.convert.ensures.outside j (omega (arith, less, behind)) in
     search rules

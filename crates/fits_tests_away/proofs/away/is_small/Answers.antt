@@ -11,5 +11,5 @@ returns-then-card_count-lt1000 c small =
     let hdu = c.args.hdu.now in
     let header = hdu.header.header in
     let whole = c.card_count.ensures.whole.header in
-    let few : c.data_len.result < 1000000 = grind (arith, nat_tests) in
+    let few : c.data_len.result < 100000000 = grind (arith, nat_tests) in
     omega (arith, few, c.if-card_count-lt1000.true, c.card_count.ensures.value, c.data_len.ensures, length-append (header_bytes header) hdu.plane.bytes, length-header_bytes header whole, whole.fill_size, fill_length-by_cards (length header.cards))

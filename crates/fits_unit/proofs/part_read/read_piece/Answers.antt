@@ -1,4 +1,4 @@
-use Rattle.std.proofs.Common.{◌≡◌, ◌<◌, ◌≤◌, ◌∙◌, ◌+◌, ◌*◌, ℕ, arith, length, subst, sym}
+use Rattle.std.proofs.Common.{◌<◌, ◌∙◌, ◌+◌, ◌*◌, arith, length, subst}
 use Rattle.fits_pieces.specs.Piece.{piece_size}
 use Rattle.fits_unit.specs.Again.{LoadStops}
 use Rattle.fits_unit.proofs.PartLemmas.{err_by, load_steady, ok_by, piece_read, piece_within, read_goes_on}

@@ -1,6 +1,5 @@
-use Rattle.std.proofs.Common.{◌≡◌, ◌<◌, ◌≤◌, ◌∙◌, ◌+◌, ◌*◌, ◌++◌, ℕ, List, ap, arith, length, refl, subst, sym, take}
+use Rattle.std.proofs.Common.{◌≡◌, ◌<◌, ◌∙◌, ◌+◌, ◌++◌, ap, arith, length, refl, subst, sym}
 use Rattle.fits_pieces.specs.Piece.{piece_of, pieces_in}
-use Rattle.fits_unit.specs.Again.{LoadCounts}
 use Rattle.fits_unit.proofs.PartReadLemmas.{pieces_all, pieces_next, reads_begin, reads_end, reads_size, reads_step, ReadsUpTo}
 use Rattle.fits_unit.proofs.part_read.read_pieces.Goals as goal
 

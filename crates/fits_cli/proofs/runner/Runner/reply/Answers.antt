@@ -7,7 +7,7 @@ use Rattle.fits_session.specs.Away.{IsTold}
 use Rattle.fits_session.specs.Marked.{guarded, Marked}
 use Rattle.fits_session.specs.Session.{file_of, marked_of, session_at}
 use Rattle.fits_session.proofs.HeaderLemmas.{headers_told}
-use Rattle.fits_cli.specs.Running.{standing_at, IsLike, IsToldBy, Progress}
+use Rattle.fits_cli.specs.Running.{standing_at, standing_over, IsLike, IsToldBy, Progress}
 use Rattle.fits_cli.proofs.OverLemmas.{wants_over}
 use Rattle.fits_session.proofs.ToldLemmas.{any_same}
 use Rattle.fits_script.specs.Line.{reading_of}
@@ -40,15 +40,15 @@ invariant_of-self g c = record {
 pub invariant_of-self-in_err-reply-in-Ok-Said : goal.invariant_of-self-in_err-reply-in-Ok-Said
 invariant_of-self-in_err-reply-in-Ok-Said g c = record {
   few = c.self.invariant.few;
-  lie = λ bytes is. c.answer.ensures.stays.lie bytes (lie_ready g.H.Holder.whole _ _ _ _ c.ready.ensures.follows c.is_sound.ensures.held c.ready.ensures.told c.self.invariant.lie bytes is);
-  seen = λ all. c.answer.ensures.stays.seen (c.ready.ensures.seen (c.self.invariant.seen all));
+  lie = λ bytes is. c.answer.ensures.lies bytes (lie_ready g.H.Holder.whole _ _ _ _ c.ready.ensures.follows c.is_sound.ensures.held c.ready.ensures.told c.self.invariant.lie bytes is);
+  seen = λ all. c.answer.ensures.seen (c.in_ok-ready-in-Ok-Said.ensures.keeps all) (c.ready.ensures.seen (c.self.invariant.seen all));
 }
 
 pub invariant_of-self-in-Ok-Said : goal.invariant_of-self-in-Ok-Said
 invariant_of-self-in-Ok-Said g c = record {
   few = c.self.invariant.few;
-  lie = λ bytes is. c.answer.ensures.stays.lie bytes (lie_ready g.H.Holder.whole _ _ _ _ c.ready.ensures.follows c.is_sound.ensures.held c.ready.ensures.told c.self.invariant.lie bytes is);
-  seen = λ all. c.answer.ensures.stays.seen (c.ready.ensures.seen (c.self.invariant.seen all));
+  lie = λ bytes is. c.answer.ensures.lies bytes (lie_ready g.H.Holder.whole _ _ _ _ c.ready.ensures.follows c.is_sound.ensures.held c.ready.ensures.told c.self.invariant.lie bytes is);
+  seen = λ all. c.answer.ensures.seen (c.in_ok-ready-in-Ok-Said.ensures.keeps all) (c.ready.ensures.seen (c.self.invariant.seen all));
 }
 
 pub returns-in_err-reply-in-Ok-Said-clause-follows : goal.returns-in_err-reply-in-Ok-Said-clause-follows
@@ -115,7 +115,16 @@ returns-in_ok-reply-in-Ok-Said-clause-like g c =
     let tables = c.self.inside.tables in
     let had : Marked = guarded tables (marked_of c.ready.new.session) in
     let like : IsLike c.args.self.now.session had = rw (← c.self.view_is) (like_guarded tables _ _ c.ready.ensures.like) in
-    record { had = had; like = like; tables = search rules; text_is = search rules; left = search rules }
+    let reading = sym (sym c.in-Ok-Said.field-0-is ∙ c.in-Ok-Said.ensures.ok) in
+    record {
+      had = had;
+      like = like;
+      tables = search rules;
+      text_is = ap (reply_text c.args.self.now.line) c.pass-in-Ok-Said.ensures.same
+          ∙ reply_told (standing_over c.args.self.now had) (reading_of c.args.line.now) c.in-Ok-Said.command c.clues_of-clues.result c.answer.result c.in_ok-reply-in-Ok-Said.reply
+          (guarded tables (marked_of c.answer.new.session)) reading (sym c.settled.ensures ∙ c.in_ok-reply-in-Ok-Said.was) c.answer.ensures.ok c.answer.ensures.err;
+      left = search rules;
+    }
 
 pub returns-in-Ok-TooLong-clause-like : goal.returns-in-Ok-TooLong-clause-like
 unfolding line_answer line_left

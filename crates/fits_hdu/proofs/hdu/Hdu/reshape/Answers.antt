@@ -12,12 +12,13 @@ use Rattle.fits_image.specs.Kind.{array_kind}
 use Rattle.fits_image.specs.declared.kind.Kind.{Kind}
 use Rattle.fits_passing.specs.Hdu.{HduParts, IsHdu, hdu_bytes}
 use Rattle.fits_hdu.specs.Reshape.{ReshapeFails, kept_count, reshaped}
-use Rattle.fits_hdu.specs.Reshaping.{IsPlan, UnitFails}
+use Rattle.fits_hdu.specs.Reshaping.{bytes_made, IsPlan, UnitFails}
 use Rattle.fits_hdu.specs.State.{HduState, parts_of}
 use Rattle.fits_hdu.specs.Work.{IsRead, IsRenewed, plan_reads, plane_work, reshape_reads, scaling_reads}
 use Rattle.fits_passing.specs.Work.{apply_reads}
 use Rattle.fits_hdu.specs.declared.reshaping.Reshaping.{Reshaping}
 use Rattle.fits_hdu.specs.declared.reshape_fault.ReshapeFault.{ReshapeFault}
+use Rattle.fits_hdu.proofs.AwayLemmas.{had_comes, size_made}
 use Rattle.fits_hdu.proofs.PlanLemmas.{change_brings}
 use Rattle.fits_hdu.proofs.ReshapeLemmas.{can_parts, kind_of_array}
 use Rattle.fits_hdu.proofs.ReshapedUnitLemmas.{kept_is, made_is, made_long, no_memory, plan_fails, renewed, unit_fails, unit_is, unit_long, unit_small, with_unit}
@@ -64,46 +65,37 @@ reshape_unit-requires-clause-array c =
     let plan = c.in_ok-plan.ensures.ok in
     rw plan.planned.after (kind_of_array h.shape h.header.cards c.in_ok-plan.plan.old plan.array)
 
+-- it is in memory, or stays away
+pub reshape_unit-requires-clause-had : goal.reshape_unit-requires-clause-had
+reshape_unit-requires-clause-had c =
+    let had = rw (← c.self.view_is) at c.requires.had in
+    had_comes c.args.kind c.args.axes.now c.in_ok-plan.plan (record { header = c.self.inside.header; plane = c.self.inside.unit.plane; entry = c.self.inside.entry; kept = c.self.inside.kept; absent = c.self.inside.unit.absent })
+    c.in_ok-plan.ensures.ok c.self.invariant.described c.self.invariant.layout had
+
 -- its data unit isn't made
-pub returns-in_err-bytes-clause-err : goal.returns-in_err-bytes-clause-err
-returns-in_err-bytes-clause-err c =
-    let p = err_from_is_err_and c.from_residual-in_err-bytes.result c.from_residual-in_err-bytes.ensures.1 in
-    let why = c.in_err-bytes.field-0.0 in
+pub returns-in_err-unit-clause-err : goal.returns-in_err-unit-clause-err
+returns-in_err-unit-clause-err c =
+    let p = err_from_is_err_and c.from_residual-in_err-unit.result c.from_residual-in_err-unit.ensures.1 in
+    let why = c.in_err-unit.field-0.0 in
     let h = c.self.inside.header in
     let plan = c.in_ok-plan.ensures.ok in
     let primary = is_primary h.shape.class in
     let inside : HduParts = record { header = h.header; data_unit = c.self.inside.unit.plane.bytes } in
     let whole : IsHdu primary inside = subst (λ (s : HduState). IsHdu (is_primary s.header.shape.class) (parts_of s)) (sym c.self.view_is) c.card_count-whole.ensures.whole in
     let unit = unit_is c.args.kind c.args.axes.now h.shape h.header.cards c.in_ok-plan.plan c.self.inside.unit.plane plan c.self.invariant.described c.self.invariant.layout in
-    let fails = subst (λ made. UnitFails made c.unit_within-len.result why) unit c.in_err-bytes.ensures.err in
+    let fails = subst (λ made. UnitFails made c.unit_within-len.result why) unit c.in_err-unit.ensures.err in
     let count = rw (plan.planned.to, plan.planned.after, c.in_ok-plan.ensures.work.header, c.in_ok-plan.ensures.work.shape) at c.count_reshaped-cards.ensures.value in
     rw (p.1, p.2) (subst (λ (s : HduState). ReshapeFails (reshaped c.args.kind c.args.axes.now s.header.shape (parts_of s)) c.args.most c.args.spare why) c.self.view_is
     (unit_fails primary c.args.kind c.args.axes.now h.shape inside c.in_ok-plan.plan c.unit_within-len.result c.count_reshaped-cards.result c.args.most c.args.spare why whole c.self.invariant.described plan count c.unit_within-len.ensures.none fails))
 
 -- but its pixels may have been read
-pub returns-in_err-bytes-clause-idle : goal.returns-in_err-bytes-clause-idle
-returns-in_err-bytes-clause-idle c =
-    let p = err_from_is_err_and c.from_residual-in_err-bytes.result c.from_residual-in_err-bytes.ensures.1 in
+pub returns-in_err-unit-clause-idle : goal.returns-in_err-unit-clause-idle
+returns-in_err-unit-clause-idle c =
+    let p = err_from_is_err_and c.from_residual-in_err-unit.result c.from_residual-in_err-unit.ensures.1 in
     let h = c.self.inside.header in
     let plan = c.in_ok-plan.ensures.ok in
     let kept = kept_is c.args.kind c.args.axes.now h.shape h.header.cards c.in_ok-plan.plan c.self.inside.unit.plane.layout plan c.self.invariant.layout in
-    rw p.1 (subst (λ (s : HduState). IsRead (kept_count s.header.shape.axes c.args.axes.now) (plane_work s.plane) (plane_work c.reshape_unit.new.unit.plane)) c.self.view_is (subst (λ n. IsRead n (plane_work c.self.inside.unit.plane) (plane_work c.reshape_unit.new.unit.plane)) kept c.in_err-bytes.ensures.work))
-
--- memory runs out for what is kept of its blocks
-pub returns-in_err-room-clause-err : goal.returns-in_err-room-clause-err
-returns-in_err-room-clause-err c =
-    let p = err_from_is_err_and c.from_residual-in_err-room.result c.from_residual-in_err-room.ensures.1 in
-    let h = c.self.inside.header in
-    let inside : HduParts = record { header = h.header; data_unit = c.self.inside.unit.plane.bytes } in
-    rw (p.1, p.2) (rw (← c.self.view_is) (no_memory c.args.kind c.in_ok-plan.plan.old c.args.axes.now h.shape inside c.args.most c.args.spare c.in_ok-plan.ensures.ok.array))
-
-pub returns-in_err-room-clause-idle : goal.returns-in_err-room-clause-idle
-returns-in_err-room-clause-idle c =
-    let p = err_from_is_err_and c.from_residual-in_err-room.result c.from_residual-in_err-room.ensures.1 in
-    let h = c.self.inside.header in
-    let plan = c.in_ok-plan.ensures.ok in
-    let kept = kept_is c.args.kind c.args.axes.now h.shape h.header.cards c.in_ok-plan.plan c.self.inside.unit.plane.layout plan c.self.invariant.layout in
-    rw p.1 (subst (λ (s : HduState). IsRead (kept_count s.header.shape.axes c.args.axes.now) (plane_work s.plane) (plane_work c.reshape_unit.new.unit.plane)) c.self.view_is (subst (λ n. IsRead n (plane_work c.self.inside.unit.plane) (plane_work c.reshape_unit.new.unit.plane)) kept c.in_ok-bytes.ensures.work))
+    rw p.1 (subst (λ (s : HduState). IsRead (kept_count s.header.shape.axes c.args.axes.now) (plane_work s.plane) (plane_work c.reshape_unit.new.unit.plane)) c.self.view_is (subst (λ n. IsRead n (plane_work c.self.inside.unit.plane) (plane_work c.reshape_unit.new.unit.plane)) kept c.in_err-unit.ensures.work))
 
 -- or for its cards
 pub returns-in_err-reserve-clause-err : goal.returns-in_err-reserve-clause-err
@@ -119,7 +111,7 @@ returns-in_err-reserve-clause-idle c =
     let h = c.self.inside.header in
     let plan = c.in_ok-plan.ensures.ok in
     let kept = kept_is c.args.kind c.args.axes.now h.shape h.header.cards c.in_ok-plan.plan c.self.inside.unit.plane.layout plan c.self.invariant.layout in
-    rw p.1 (subst (λ (s : HduState). IsRead (kept_count s.header.shape.axes c.args.axes.now) (plane_work s.plane) (plane_work c.reshape_unit.new.unit.plane)) c.self.view_is (subst (λ n. IsRead n (plane_work c.self.inside.unit.plane) (plane_work c.reshape_unit.new.unit.plane)) kept c.in_ok-bytes.ensures.work))
+    rw p.1 (subst (λ (s : HduState). IsRead (kept_count s.header.shape.axes c.args.axes.now) (plane_work s.plane) (plane_work c.reshape_unit.new.unit.plane)) c.self.view_is (subst (λ n. IsRead n (plane_work c.self.inside.unit.plane) (plane_work c.reshape_unit.new.unit.plane)) kept c.in_ok-unit.ensures.work))
 
 -- there is room for its cards
 pub renew-requires-clause-room : goal.renew-requires-clause-room
@@ -138,16 +130,11 @@ renew-requires-clause-size c =
     let plan = c.in_ok-plan.ensures.ok in
     let inside : HduParts = record { header = h.header; data_unit = c.self.inside.unit.plane.bytes } in
     let unit = unit_is c.args.kind c.args.axes.now h.shape h.header.cards c.in_ok-plan.plan c.self.inside.unit.plane plan c.self.invariant.described c.self.invariant.layout in
-    unit_long c.args.kind c.args.axes.now h.shape inside c.in_ok-plan.plan c.in_ok-bytes.bytes.items plan (sym unit ∙ c.in_ok-bytes.ensures.ok)
+    rw c.reshape_unit.ensures.bytes (unit_long c.args.kind c.args.axes.now h.shape inside c.in_ok-plan.plan (bytes_made c.in_ok-unit.unit c.self.inside.unit.plane.bytes) plan (sym unit ∙ c.in_ok-unit.ensures.ok))
 
 pub renew-requires-clause-small : goal.renew-requires-clause-small
 renew-requires-clause-small c =
-    let h = c.self.inside.header in
-    let plan = c.in_ok-plan.ensures.ok in
-    let inside : HduParts = record { header = h.header; data_unit = c.self.inside.unit.plane.bytes } in
-    let unit = unit_is c.args.kind c.args.axes.now h.shape h.header.cards c.in_ok-plan.plan c.self.inside.unit.plane plan c.self.invariant.described c.self.invariant.layout in
-    let long = unit_long c.args.kind c.args.axes.now h.shape inside c.in_ok-plan.plan c.in_ok-bytes.bytes.items plan (sym unit ∙ c.in_ok-bytes.ensures.ok) in
-    omega (arith, long, c.requires.most, unit_small c.unit_within-len.result (c.count_reshaped-cards.result + c.args.spare) c.args.most (data_length c.in_ok-plan.plan.shape) c.in_ok-bytes.ensures.may c.unit_within-len.ensures.some c.unit_within-len.ensures.within)
+    omega (arith, c.requires.most, unit_small c.unit_within-len.result (c.count_reshaped-cards.result + c.args.spare) c.args.most (data_length c.in_ok-plan.plan.shape) c.in_ok-unit.ensures.may c.unit_within-len.ensures.some c.unit_within-len.ensures.within)
 
 -- the HDU that is left is the one that is made
 pub returns-clause-ok : goal.returns-clause-ok
@@ -157,8 +144,8 @@ returns-clause-ok c =
     let inside : HduParts = record { header = h.header; data_unit = c.self.inside.unit.plane.bytes } in
     let unit = unit_is c.args.kind c.args.axes.now h.shape h.header.cards c.in_ok-plan.plan c.self.inside.unit.plane plan c.self.invariant.described c.self.invariant.layout in
     let header = rw (c.reserve.ensures.header, c.count_reshaped-cards.ensures.work.header, c.in_ok-plan.ensures.work.header, c.reserve.ensures.shape, c.count_reshaped-cards.ensures.work.shape, c.in_ok-plan.ensures.work.shape, plan.planned.to, plan.planned.after) at c.renew.ensures.header in
-    let left : parts_of c.renew.new.self ≡ with_unit c.in_ok-plan.plan.old c.args.kind c.args.axes.now h.shape inside c.in_ok-bytes.bytes.items = rw (header, c.renew.ensures.unit) refl in
-    let made = made_is c.args.kind c.args.axes.now h.shape inside c.in_ok-plan.plan c.in_ok-bytes.bytes.items plan (sym unit ∙ c.in_ok-bytes.ensures.ok) in
+    let left : parts_of c.renew.new.self ≡ with_unit c.in_ok-plan.plan.old c.args.kind c.args.axes.now h.shape inside (bytes_made c.in_ok-unit.unit c.self.inside.unit.plane.bytes) = rw (header, c.renew.ensures.unit, c.reshape_unit.ensures.bytes) refl in
+    let made = made_is c.args.kind c.args.axes.now h.shape inside c.in_ok-plan.plan (bytes_made c.in_ok-unit.unit c.self.inside.unit.plane.bytes) plan (sym unit ∙ c.in_ok-unit.ensures.ok) in
     subst (λ (s : HduState). reshaped c.args.kind c.args.axes.now s.header.shape (parts_of s) ≡ Ok (parts_of c.renew.new.self)) c.self.view_is (made ∙ ap (λ (hdu : HduParts). let made : Result HduParts ReshapeFault = Ok hdu in made) (sym left))
 
 -- a length that is within fits its type
@@ -168,10 +155,11 @@ overflow_add-len c =
     let plan = c.in_ok-plan.ensures.ok in
     let inside : HduParts = record { header = h.header; data_unit = c.self.inside.unit.plane.bytes } in
     let unit = unit_is c.args.kind c.args.axes.now h.shape h.header.cards c.in_ok-plan.plan c.self.inside.unit.plane plan c.self.invariant.described c.self.invariant.layout in
-    let long = unit_long c.args.kind c.args.axes.now h.shape inside c.in_ok-plan.plan c.in_ok-bytes.bytes.items plan (sym unit ∙ c.in_ok-bytes.ensures.ok) in
-    let small = unit_small c.unit_within-len.result (c.count_reshaped-cards.result + c.args.spare) c.args.most (data_length c.in_ok-plan.plan.shape) c.in_ok-bytes.ensures.may c.unit_within-len.ensures.some c.unit_within-len.ensures.within in
+    let long = unit_long c.args.kind c.args.axes.now h.shape inside c.in_ok-plan.plan (bytes_made c.in_ok-unit.unit c.self.inside.unit.plane.bytes) plan (sym unit ∙ c.in_ok-unit.ensures.ok) in
+    let made = size_made c.in_ok-plan.plan c.reshape_unit.new.unit c.in_ok-unit.unit c.self.inside.unit.plane.bytes c.in_ok-unit.ensures.may_be long in
+    let small = unit_small c.unit_within-len.result (c.count_reshaped-cards.result + c.args.spare) c.args.most (data_length c.in_ok-plan.plan.shape) c.in_ok-unit.ensures.may c.unit_within-len.ensures.some c.unit_within-len.ensures.within in
     let count = c.count_reshaped-cards.result in
-    omega (arith, c.header_len.ensures, c.len-2.ensures, long, small, c.requires.most, fill_length-by_cards count, fill_length-by_cards (count + c.args.spare))
+    omega (arith, c.header_len.ensures, c.byte_len.ensures, made, long, small, c.requires.most, fill_length-by_cards count, fill_length-by_cards (count + c.args.spare))
 
 -- it is so long
 pub returns-clause-len : goal.returns-clause-len
@@ -183,11 +171,12 @@ returns-clause-len c =
     let whole : IsHdu primary inside = subst (λ (s : HduState). IsHdu (is_primary s.header.shape.class) (parts_of s)) (sym c.self.view_is) c.card_count-whole.ensures.whole in
     let unit = unit_is c.args.kind c.args.axes.now h.shape h.header.cards c.in_ok-plan.plan c.self.inside.unit.plane plan c.self.invariant.described c.self.invariant.layout in
     let header = rw (c.reserve.ensures.header, c.count_reshaped-cards.ensures.work.header, c.in_ok-plan.ensures.work.header, c.reserve.ensures.shape, c.count_reshaped-cards.ensures.work.shape, c.in_ok-plan.ensures.work.shape, plan.planned.to, plan.planned.after) at c.renew.ensures.header in
-    let left : parts_of c.renew.new.self ≡ with_unit c.in_ok-plan.plan.old c.args.kind c.args.axes.now h.shape inside c.in_ok-bytes.bytes.items = rw (header, c.renew.ensures.unit) refl in
+    let left : parts_of c.renew.new.self ≡ with_unit c.in_ok-plan.plan.old c.args.kind c.args.axes.now h.shape inside (bytes_made c.in_ok-unit.unit c.self.inside.unit.plane.bytes) = rw (header, c.renew.ensures.unit, c.reshape_unit.ensures.bytes) refl in
     let count = rw (plan.planned.to, plan.planned.after, c.in_ok-plan.ensures.work.header, c.in_ok-plan.ensures.work.shape) at c.count_reshaped-cards.ensures.value in
-    let long = unit_long c.args.kind c.args.axes.now h.shape inside c.in_ok-plan.plan c.in_ok-bytes.bytes.items plan (sym unit ∙ c.in_ok-bytes.ensures.ok) in
-    let all = made_long primary c.args.kind c.args.axes.now h.shape inside c.in_ok-plan.plan c.in_ok-bytes.bytes.items whole c.self.invariant.described plan (sym unit ∙ c.in_ok-bytes.ensures.ok) in
-    omega (arith, c.header_len.ensures, c.len-2.ensures, ap (λ (hdu : HduParts). length (hdu_bytes hdu)) left, ap header_length count, long, all)
+    let long = unit_long c.args.kind c.args.axes.now h.shape inside c.in_ok-plan.plan (bytes_made c.in_ok-unit.unit c.self.inside.unit.plane.bytes) plan (sym unit ∙ c.in_ok-unit.ensures.ok) in
+    let made = size_made c.in_ok-plan.plan c.reshape_unit.new.unit c.in_ok-unit.unit c.self.inside.unit.plane.bytes c.in_ok-unit.ensures.may_be long in
+    let all = made_long primary c.args.kind c.args.axes.now h.shape inside c.in_ok-plan.plan (bytes_made c.in_ok-unit.unit c.self.inside.unit.plane.bytes) whole c.self.invariant.described plan (sym unit ∙ c.in_ok-unit.ensures.ok) in
+    omega (arith, c.header_len.ensures, c.byte_len.ensures, made, ap (λ (hdu : HduParts). length (hdu_bytes hdu)) left, ap header_length count, long, all)
 
 pub returns-clause-within : goal.returns-clause-within
 returns-clause-within c =
@@ -195,12 +184,12 @@ returns-clause-within c =
     let plan = c.in_ok-plan.ensures.ok in
     let inside : HduParts = record { header = h.header; data_unit = c.self.inside.unit.plane.bytes } in
     let unit = unit_is c.args.kind c.args.axes.now h.shape h.header.cards c.in_ok-plan.plan c.self.inside.unit.plane plan c.self.invariant.described c.self.invariant.layout in
-    let long = unit_long c.args.kind c.args.axes.now h.shape inside c.in_ok-plan.plan c.in_ok-bytes.bytes.items plan (sym unit ∙ c.in_ok-bytes.ensures.ok) in
+    let long = unit_long c.args.kind c.args.axes.now h.shape inside c.in_ok-plan.plan (bytes_made c.in_ok-unit.unit c.self.inside.unit.plane.bytes) plan (sym unit ∙ c.in_ok-unit.ensures.ok) in
     let header = rw (c.reserve.ensures.header, c.count_reshaped-cards.ensures.work.header, c.in_ok-plan.ensures.work.header, c.reserve.ensures.shape, c.count_reshaped-cards.ensures.work.shape, c.in_ok-plan.ensures.work.shape, plan.planned.to, plan.planned.after) at c.renew.ensures.header in
     let count = rw (plan.planned.to, plan.planned.after, c.in_ok-plan.ensures.work.header, c.in_ok-plan.ensures.work.shape) at c.count_reshaped-cards.ensures.value in
     let same : length c.renew.new.self.header.header.cards ≡ c.count_reshaped-cards.result = ap (λ (x : Header). length x.cards) header ∙ sym count in
-    let small = unit_small c.unit_within-len.result (c.count_reshaped-cards.result + c.args.spare) c.args.most (data_length c.in_ok-plan.plan.shape) c.in_ok-bytes.ensures.may c.unit_within-len.ensures.some c.unit_within-len.ensures.within in
-    omega (arith, ap (λ n. header_length (n + c.args.spare)) same, ap length c.renew.ensures.unit, long, small)
+    let small = unit_small c.unit_within-len.result (c.count_reshaped-cards.result + c.args.spare) c.args.most (data_length c.in_ok-plan.plan.shape) c.in_ok-unit.ensures.may c.unit_within-len.ensures.some c.unit_within-len.ensures.within in
+    omega (arith, ap (λ n. header_length (n + c.args.spare)) same, ap length c.renew.ensures.unit, ap (λ before. length (bytes_made c.in_ok-unit.unit before)) c.reshape_unit.ensures.bytes, long, small)
 
 -- and there is room for the spare cards
 pub returns-clause-spared : goal.returns-clause-spared
@@ -218,20 +207,16 @@ returns-clause-pixel_work c =
     let h = c.self.inside.header in
     let plan = c.in_ok-plan.ensures.ok in
     let kept = kept_is c.args.kind c.args.axes.now h.shape h.header.cards c.in_ok-plan.plan c.self.inside.unit.plane.layout plan c.self.invariant.layout in
-    let read = subst (λ n. IsRead n (plane_work c.self.inside.unit.plane) (plane_work c.reshape_unit.new.unit.plane)) kept c.in_ok-bytes.ensures.work in
-    let work = renewed (kept_count h.shape.axes c.args.axes.now) (block_count c.in_ok-bytes.bytes.items) (plane_work c.self.inside.unit.plane) (plane_work c.reshape_unit.new.unit.plane) (plane_work c.renew.new.self.plane) read c.renew.ensures.pixel_work in
-    rw c.renew.ensures.unit (subst (λ (s : HduState). IsRenewed (kept_count s.header.shape.axes c.args.axes.now) (block_count c.in_ok-bytes.bytes.items) (plane_work s.plane) (plane_work c.renew.new.self.plane)) c.self.view_is work)
+    let read = subst (λ n. IsRead n (plane_work c.self.inside.unit.plane) (plane_work c.reshape_unit.new.unit.plane)) kept c.in_ok-unit.ensures.work in
+    let work = renewed (kept_count h.shape.axes c.args.axes.now) (block_count c.renew.new.self.plane.bytes) (plane_work c.self.inside.unit.plane) (plane_work c.reshape_unit.new.unit.plane) (plane_work c.renew.new.self.plane) read c.renew.ensures.pixel_work in
+    subst (λ (s : HduState). IsRenewed (kept_count s.header.shape.axes c.args.axes.now) (block_count c.renew.new.self.plane.bytes) (plane_work s.plane) (plane_work c.renew.new.self.plane)) c.self.view_is work
 
 -- the cards that were read on the way
 pub returns-in_err-plan-clause-work : goal.returns-in_err-plan-clause-work
 returns-in_err-plan-clause-work c = subst (λ (s : HduState). c.plan.new.header.reads ≤ s.header.reads + reshape_reads (array_kind s.header.shape s.header.header.cards) c.args.kind c.args.axes.now s.header.header.cards) c.self.view_is (plan_most c.args.kind c.args.axes.now c.self.inside.header c.plan.new.header c.in_err-plan.ensures.work)
 
-pub returns-in_err-bytes-clause-work : goal.returns-in_err-bytes-clause-work
-returns-in_err-bytes-clause-work c =
-    subst (λ (s : HduState). c.count_reshaped-cards.new.header.reads ≤ s.header.reads + reshape_reads (array_kind s.header.shape s.header.header.cards) c.args.kind c.args.axes.now s.header.header.cards) c.self.view_is (all_most c.args.kind c.args.axes.now c.in_ok-plan.plan c.self.inside.header c.plan.new.header c.count_reshaped-cards.new.header (c.count_reshaped-cards.new.header.reads) c.in_ok-plan.ensures.ok c.in_ok-plan.ensures.work c.count_reshaped-cards.ensures.work (omega arith))
-
-pub returns-in_err-room-clause-work : goal.returns-in_err-room-clause-work
-returns-in_err-room-clause-work c =
+pub returns-in_err-unit-clause-work : goal.returns-in_err-unit-clause-work
+returns-in_err-unit-clause-work c =
     subst (λ (s : HduState). c.count_reshaped-cards.new.header.reads ≤ s.header.reads + reshape_reads (array_kind s.header.shape s.header.header.cards) c.args.kind c.args.axes.now s.header.header.cards) c.self.view_is (all_most c.args.kind c.args.axes.now c.in_ok-plan.plan c.self.inside.header c.plan.new.header c.count_reshaped-cards.new.header (c.count_reshaped-cards.new.header.reads) c.in_ok-plan.ensures.ok c.in_ok-plan.ensures.work c.count_reshaped-cards.ensures.work (omega arith))
 
 pub returns-in_err-reserve-clause-work : goal.returns-in_err-reserve-clause-work

@@ -134,66 +134,68 @@ returns-else-may_rename-clause-edits g c =
 pub edit_hdu-requires-clause-ready : goal.edit_hdu-requires-clause-ready
 edit_hdu-requires-clause-ready g c = search rules
 
-pub returns-in_err-self-inside-clause-stays : goal.returns-in_err-self-inside-clause-stays
-returns-in_err-self-inside-clause-stays g c = record {
-  lie = λ bytes lie.
-      let own : AllLie bytes c.self.inside.hdus.items = rw (← c.self.view_is) at lie in
-      let edited : IsEdited c.self.inside.hdus.items c.self.inside.tail.items c.args.h c.in_ok-i.i c.args.edit.now c.self.inside.len c.len-count.result c.index_mut.result.now c.edit_hdu.new.hdu (Err c.in_err-self-inside.field-0.0) = record {
-        at = is_at c.self.inside.hdus.items c.deref.result.now c.args.h c.args.h c.in_ok-i.i c.index_mut.result.now c.deref.ensures.value refl c.in_ok-i.ensures.found c.index_mut.ensures.value;
-        file = c.self.invariant.whole;
-        size = c.self.invariant.len;
-        number = c.len-count.ensures ∙ sym c.deref.ensures.len ∙ ap length c.deref.ensures.value;
-        edits = c.in_err-self-inside.ensures.edits;
-        long = tt;
-      } in
-      (kept_refused (in_file bytes) c.self.inside.hdus.items c.self.inside.tail.items c.args.h c.in_ok-i.i c.args.edit.now c.self.inside.len c.len-count.result c.self.inside.names.numbers.items c.self.inside.names.room c.index_mut.result.now c.edit_hdu.new.hdu (kept_in _ (in_file bytes) _ _ _ _ _ c.self.invariant own) c.in_err-self-inside.field-0.0 edited).had;
-  seen = λ all.
-      let own : All IsSeen c.self.inside.hdus.items = rw (← c.self.view_is) at all in
-      let at = (is_at c.self.inside.hdus.items c.deref.result.now c.args.h c.args.h c.in_ok-i.i c.index_mut.result.now c.deref.ensures.value refl c.in_ok-i.ensures.found c.index_mut.ensures.value) in
-      seen_same (set c.self.inside.hdus.items c.in_ok-i.i c.edit_hdu.new.hdu) c.self.inside.hdus.items (absences_of-same c.self.inside.hdus.items c.in_ok-i.i c.index_mut.result.now c.edit_hdu.new.hdu at.index.within at.is c.in_err-self-inside.ensures.edits.absent) own;
-}
+pub returns-in_err-self-inside-clause-lies : goal.returns-in_err-self-inside-clause-lies
+returns-in_err-self-inside-clause-lies g c = λ bytes lie.
+    let own : AllLie bytes c.self.inside.hdus.items = rw (← c.self.view_is) at lie in
+    let edited : IsEdited c.self.inside.hdus.items c.self.inside.tail.items c.args.h c.in_ok-i.i c.args.edit.now c.self.inside.len c.len-count.result c.index_mut.result.now c.edit_hdu.new.hdu (Err c.in_err-self-inside.field-0.0) = record {
+      at = is_at c.self.inside.hdus.items c.deref.result.now c.args.h c.args.h c.in_ok-i.i c.index_mut.result.now c.deref.ensures.value refl c.in_ok-i.ensures.found c.index_mut.ensures.value;
+      file = c.self.invariant.whole;
+      size = c.self.invariant.len;
+      number = c.len-count.ensures ∙ sym c.deref.ensures.len ∙ ap length c.deref.ensures.value;
+      edits = c.in_err-self-inside.ensures.edits;
+      long = tt;
+    } in
+    (kept_refused (in_file bytes) c.self.inside.hdus.items c.self.inside.tail.items c.args.h c.in_ok-i.i c.args.edit.now c.self.inside.len c.len-count.result c.self.inside.names.numbers.items c.self.inside.names.room c.index_mut.result.now c.edit_hdu.new.hdu (kept_in _ (in_file bytes) _ _ _ _ _ c.self.invariant own) c.in_err-self-inside.field-0.0 edited).had
 
-pub returns-then-may_rename-clause-stays : goal.returns-then-may_rename-clause-stays
-returns-then-may_rename-clause-stays g c = record {
-  lie = λ bytes lie.
-      let own : AllLie bytes c.self.inside.hdus.items = rw (← c.self.view_is) at lie in
-      let edited : IsEdited c.self.inside.hdus.items c.self.inside.tail.items c.args.h c.in_ok-i.i c.args.edit.now c.self.inside.len c.len-count.result c.index_mut.result.now c.edit_hdu.new.hdu (Ok c.in_ok-self-inside.field-0) = record {
-        at = is_at c.self.inside.hdus.items c.deref.result.now c.args.h c.args.h c.in_ok-i.i c.index_mut.result.now c.deref.ensures.value refl c.in_ok-i.ensures.found c.index_mut.ensures.value;
-        file = c.self.invariant.whole;
-        size = c.self.invariant.len;
-        number = c.len-count.ensures ∙ sym c.deref.ensures.len ∙ ap length c.deref.ensures.value;
-        edits = c.in_ok-self-inside.ensures.edits;
-        long = c.in_ok-self-inside.ensures.len;
-      } in
-      let follows : IsFollowed (set c.self.inside.hdus.items c.in_ok-i.i c.edit_hdu.new.hdu) c.follow.new.hdus.items c.args.h name_reads = record {
-        hdus = c.follow.ensures.hdus;
-        reads = subst (λ h. ReadsOnly h name_reads (reads_of (set c.self.inside.hdus.items c.in_ok-i.i c.edit_hdu.new.hdu)) (reads_of c.follow.new.hdus.items)) (sym edited.at.index.at) c.follow.ensures.reads;
-        works = c.follow.ensures.works;
-        kept = c.follow.ensures.kept;
-        absences = c.follow.ensures.absences;
-      } in
-      (kept_followed (in_file bytes) c.self.inside.hdus.items c.self.inside.tail.items c.args.h c.in_ok-i.i c.args.edit.now c.self.inside.len c.len-count.result c.self.inside.names.numbers.items c.self.inside.names.room c.index_mut.result.now c.edit_hdu.new.hdu (kept_in _ (in_file bytes) _ _ _ _ _ c.self.invariant own) c.in_ok-self-inside.field-0 name_reads c.follow.new.table.room c.follow.new.hdus.items c.follow.new.table.numbers.items edited follows c.follow.ensures.described c.follow.ensures.had c.follow.ensures.stands c.follow.ensures.room).had;
-  seen = λ all.
-      let own : All IsSeen c.self.inside.hdus.items = rw (← c.self.view_is) at all in
-      let at = (is_at c.self.inside.hdus.items c.deref.result.now c.args.h c.args.h c.in_ok-i.i c.index_mut.result.now c.deref.ensures.value refl c.in_ok-i.ensures.found c.index_mut.ensures.value) in
-      seen_same c.follow.new.hdus.items c.self.inside.hdus.items (c.follow.ensures.absences ∙ absences_of-same c.self.inside.hdus.items c.in_ok-i.i c.index_mut.result.now c.edit_hdu.new.hdu at.index.within at.is c.in_ok-self-inside.ensures.edits.absent) own;
-}
+pub returns-in_err-self-inside-clause-seen : goal.returns-in_err-self-inside-clause-seen
+returns-in_err-self-inside-clause-seen g c = λ keeps all.
+    let own : All IsSeen c.self.inside.hdus.items = rw (← c.self.view_is) at all in
+    let at = (is_at c.self.inside.hdus.items c.deref.result.now c.args.h c.args.h c.in_ok-i.i c.index_mut.result.now c.deref.ensures.value refl c.in_ok-i.ensures.found c.index_mut.ensures.value) in
+    seen_same (set c.self.inside.hdus.items c.in_ok-i.i c.edit_hdu.new.hdu) c.self.inside.hdus.items (absences_of-same c.self.inside.hdus.items c.in_ok-i.i c.index_mut.result.now c.edit_hdu.new.hdu at.index.within at.is c.in_err-self-inside.ensures.edits.absent) own
 
-pub returns-else-may_rename-clause-stays : goal.returns-else-may_rename-clause-stays
-returns-else-may_rename-clause-stays g c = record {
-  lie = λ bytes lie.
-      let own : AllLie bytes c.self.inside.hdus.items = rw (← c.self.view_is) at lie in
-      let edited : IsEdited c.self.inside.hdus.items c.self.inside.tail.items c.args.h c.in_ok-i.i c.args.edit.now c.self.inside.len c.len-count.result c.index_mut.result.now c.edit_hdu.new.hdu (Ok c.in_ok-self-inside.field-0) = record {
-        at = is_at c.self.inside.hdus.items c.deref.result.now c.args.h c.args.h c.in_ok-i.i c.index_mut.result.now c.deref.ensures.value refl c.in_ok-i.ensures.found c.index_mut.ensures.value;
-        file = c.self.invariant.whole;
-        size = c.self.invariant.len;
-        number = c.len-count.ensures ∙ sym c.deref.ensures.len ∙ ap length c.deref.ensures.value;
-        edits = c.in_ok-self-inside.ensures.edits;
-        long = c.in_ok-self-inside.ensures.len;
-      } in
-      (kept_unrenamed (in_file bytes) c.self.inside.hdus.items c.self.inside.tail.items c.args.h c.in_ok-i.i c.args.edit.now c.self.inside.len c.len-count.result c.self.inside.names.numbers.items c.self.inside.names.room c.index_mut.result.now c.edit_hdu.new.hdu (kept_in _ (in_file bytes) _ _ _ _ _ c.self.invariant own) c.in_ok-self-inside.field-0 (sym c.if-may_rename.ensures) edited).had;
-  seen = λ all.
-      let own : All IsSeen c.self.inside.hdus.items = rw (← c.self.view_is) at all in
-      let at = (is_at c.self.inside.hdus.items c.deref.result.now c.args.h c.args.h c.in_ok-i.i c.index_mut.result.now c.deref.ensures.value refl c.in_ok-i.ensures.found c.index_mut.ensures.value) in
-      seen_same (set c.self.inside.hdus.items c.in_ok-i.i c.edit_hdu.new.hdu) c.self.inside.hdus.items (absences_of-same c.self.inside.hdus.items c.in_ok-i.i c.index_mut.result.now c.edit_hdu.new.hdu at.index.within at.is c.in_ok-self-inside.ensures.edits.absent) own;
-}
+pub returns-then-may_rename-clause-lies : goal.returns-then-may_rename-clause-lies
+returns-then-may_rename-clause-lies g c = λ bytes lie.
+    let own : AllLie bytes c.self.inside.hdus.items = rw (← c.self.view_is) at lie in
+    let edited : IsEdited c.self.inside.hdus.items c.self.inside.tail.items c.args.h c.in_ok-i.i c.args.edit.now c.self.inside.len c.len-count.result c.index_mut.result.now c.edit_hdu.new.hdu (Ok c.in_ok-self-inside.field-0) = record {
+      at = is_at c.self.inside.hdus.items c.deref.result.now c.args.h c.args.h c.in_ok-i.i c.index_mut.result.now c.deref.ensures.value refl c.in_ok-i.ensures.found c.index_mut.ensures.value;
+      file = c.self.invariant.whole;
+      size = c.self.invariant.len;
+      number = c.len-count.ensures ∙ sym c.deref.ensures.len ∙ ap length c.deref.ensures.value;
+      edits = c.in_ok-self-inside.ensures.edits;
+      long = c.in_ok-self-inside.ensures.len;
+    } in
+    let follows : IsFollowed (set c.self.inside.hdus.items c.in_ok-i.i c.edit_hdu.new.hdu) c.follow.new.hdus.items c.args.h name_reads = record {
+      hdus = c.follow.ensures.hdus;
+      reads = subst (λ h. ReadsOnly h name_reads (reads_of (set c.self.inside.hdus.items c.in_ok-i.i c.edit_hdu.new.hdu)) (reads_of c.follow.new.hdus.items)) (sym edited.at.index.at) c.follow.ensures.reads;
+      works = c.follow.ensures.works;
+      kept = c.follow.ensures.kept;
+      absences = c.follow.ensures.absences;
+    } in
+    (kept_followed (in_file bytes) c.self.inside.hdus.items c.self.inside.tail.items c.args.h c.in_ok-i.i c.args.edit.now c.self.inside.len c.len-count.result c.self.inside.names.numbers.items c.self.inside.names.room c.index_mut.result.now c.edit_hdu.new.hdu (kept_in _ (in_file bytes) _ _ _ _ _ c.self.invariant own) c.in_ok-self-inside.field-0 name_reads c.follow.new.table.room c.follow.new.hdus.items c.follow.new.table.numbers.items edited follows c.follow.ensures.described c.follow.ensures.had c.follow.ensures.stands c.follow.ensures.room).had
+
+pub returns-then-may_rename-clause-seen : goal.returns-then-may_rename-clause-seen
+returns-then-may_rename-clause-seen g c = λ keeps all.
+    let own : All IsSeen c.self.inside.hdus.items = rw (← c.self.view_is) at all in
+    let fixed = rw (← c.self.view_is) at keeps in
+    let at = (is_at c.self.inside.hdus.items c.deref.result.now c.args.h c.args.h c.in_ok-i.i c.index_mut.result.now c.deref.ensures.value refl c.in_ok-i.ensures.found c.index_mut.ensures.value) in
+    seen_same c.follow.new.hdus.items c.self.inside.hdus.items (c.follow.ensures.absences ∙ absences_of-same c.self.inside.hdus.items c.in_ok-i.i c.index_mut.result.now c.edit_hdu.new.hdu at.index.within at.is (c.in_ok-self-inside.ensures.edits.fixed (fixed c.in_ok-i.i c.index_mut.result.now at.index (sym at.is)))) own
+
+pub returns-else-may_rename-clause-lies : goal.returns-else-may_rename-clause-lies
+returns-else-may_rename-clause-lies g c = λ bytes lie.
+    let own : AllLie bytes c.self.inside.hdus.items = rw (← c.self.view_is) at lie in
+    let edited : IsEdited c.self.inside.hdus.items c.self.inside.tail.items c.args.h c.in_ok-i.i c.args.edit.now c.self.inside.len c.len-count.result c.index_mut.result.now c.edit_hdu.new.hdu (Ok c.in_ok-self-inside.field-0) = record {
+      at = is_at c.self.inside.hdus.items c.deref.result.now c.args.h c.args.h c.in_ok-i.i c.index_mut.result.now c.deref.ensures.value refl c.in_ok-i.ensures.found c.index_mut.ensures.value;
+      file = c.self.invariant.whole;
+      size = c.self.invariant.len;
+      number = c.len-count.ensures ∙ sym c.deref.ensures.len ∙ ap length c.deref.ensures.value;
+      edits = c.in_ok-self-inside.ensures.edits;
+      long = c.in_ok-self-inside.ensures.len;
+    } in
+    (kept_unrenamed (in_file bytes) c.self.inside.hdus.items c.self.inside.tail.items c.args.h c.in_ok-i.i c.args.edit.now c.self.inside.len c.len-count.result c.self.inside.names.numbers.items c.self.inside.names.room c.index_mut.result.now c.edit_hdu.new.hdu (kept_in _ (in_file bytes) _ _ _ _ _ c.self.invariant own) c.in_ok-self-inside.field-0 (sym c.if-may_rename.ensures) edited).had
+
+pub returns-else-may_rename-clause-seen : goal.returns-else-may_rename-clause-seen
+returns-else-may_rename-clause-seen g c = λ keeps all.
+    let own : All IsSeen c.self.inside.hdus.items = rw (← c.self.view_is) at all in
+    let fixed = rw (← c.self.view_is) at keeps in
+    let at = (is_at c.self.inside.hdus.items c.deref.result.now c.args.h c.args.h c.in_ok-i.i c.index_mut.result.now c.deref.ensures.value refl c.in_ok-i.ensures.found c.index_mut.ensures.value) in
+    seen_same (set c.self.inside.hdus.items c.in_ok-i.i c.edit_hdu.new.hdu) c.self.inside.hdus.items (absences_of-same c.self.inside.hdus.items c.in_ok-i.i c.index_mut.result.now c.edit_hdu.new.hdu at.index.within at.is (c.in_ok-self-inside.ensures.edits.fixed (fixed c.in_ok-i.i c.index_mut.result.now at.index (sym at.is)))) own
